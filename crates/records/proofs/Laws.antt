@@ -1,0 +1,5 @@
+pub mod Index
+pub mod Event
+pub mod Place
+pub mod Put
+pub mod Unread

@@ -1,0 +1,24 @@
+use Rattle.records.proofs.Laws.Event.{fields-written}
+use borrow.Author.Needs.{needs}
+use Rattle.records.proofs.encode.Statement.{statement}
+use Rattle.records.proofs.encode.Tie as tie
+
+write-u16-requires : tie.Need-write-u16-requires
+write-u16-requires c κs = search needs
+
+write-u16-requires-2 : tie.Need-write-u16-requires-2
+write-u16-requires-2 c κs = search needs
+
+write-u32-requires : tie.Need-write-u32-requires
+write-u32-requires c κs = search needs
+
+same-length : tie.Need-same-length
+same-length c = search needs
+
+returns : tie.Need-returns
+returns c = rw (c .before .before .write-u32 .ensures, c .before .before .before .before .before .before .write-u162 .ensures, c .before .before .before .before .before .before .before .before .before .before .write-u16 .ensures) (fields-written _ _ (c .before .before .before .before .before .before .before .before .before .before .before .before .before .pre))
+
+pub encode-spec : {M : Type 1} → statement M
+encode-spec =
+    tie.close
+    (tie.spec write-u16-requires write-u16-requires-2 write-u32-requires same-length returns)
