@@ -1,0 +1,32 @@
+use native.Mathlib.Omega.{arith}
+use Rattle.text.proofs.Laws.Written.{written-next}
+use Rattle.capture.specs.Listing.{numberLine}
+use borrow.Author.Needs.{needs}
+use Rattle.capture.proofs.write_line.Statement.{statement}
+use Rattle.capture.proofs.write_line.Tie as tie
+
+write-text-requires : tie.Need-write-text-requires
+write-text-requires c κs = search needs
+
+slice-aggregate-write-number : tie.Need-slice-aggregate-write-number
+slice-aggregate-write-number c = search needs
+
+write-number-requires : tie.Need-write-number-requires
+write-number-requires c κs = search needs
+
+same-length : tie.Need-same-length
+same-length c = search needs
+
+returns : tie.Need-returns
+unfolding numberLine
+returns c = written-next (c .before .before .before .before .before .before .before .write-text .ensures) (omega (arith, c .before .before .before .before .before .before .before .before .before .before .before .pre)) (c .before .before .write-number .ensures)
+
+pub write-line-spec : {M : Type 1} → statement M
+write-line-spec =
+    tie.close
+    (tie.spec
+    write-text-requires
+    slice-aggregate-write-number
+    write-number-requires
+    same-length
+    returns)
