@@ -1,8 +1,8 @@
-// Little-endian words of 16 and 32 bits in a slice of bytes.
+// Little-endian words of 16 and 32 bits in a slice of bytes, and bytes copied and zeroed.
 ghost use mathlib.Core.Path.{_≡_};
 ghost use Prim.Native.Nat.{_+_, _≤_, _<_};
-ghost use lib.ListN.{length};
-ghost use Rattle.words.specs.Words.{u16At, u32At, u16Bytes, u32Bytes, setU16, setU32};
+ghost use lib.ListN.{length, replicate};
+ghost use Rattle.words.specs.Words.{u16At, u32At, u16Bytes, u32Bytes, setU16, setU32, overwrite};
 
 fn widen_u16(byte: u8) -> u16
     ensures { λ r. ⌜ (r ≡ byte) × (r < 256) ⌝ }
@@ -65,4 +65,26 @@ pub fn write_u32(bytes: &mut [u8], at: usize, value: u32)
     ensures { λ _. ⌜ now (bytes .exit) ≡ setU32 (now (bytes .entry)) at value ⌝ }
 {
     fill_u32(&mut bytes[at..at + 4], value);
+}
+
+// Copies the source into the buffer from `at` on.
+pub fn copy(bytes: &mut [u8], at: usize, source: &[u8])
+    requires { ⌜ at + length (now source) ≤ length (now bytes) ⌝ }
+    ensures { λ _. ⌜ now (bytes .exit) ≡ overwrite (now (bytes .entry)) at (now (source .entry)) ⌝ }
+{
+    let mut i: usize = 0;
+    while i < source.len() {
+        bytes[at + i] = source[i];
+        i += 1;
+    }
+}
+
+pub fn clear(bytes: &mut [u8])
+    ensures { λ _. ⌜ now (bytes .exit) ≡ replicate (length (now (bytes .entry))) 0 ⌝ }
+{
+    let mut i: usize = 0;
+    while i < bytes.len() {
+        bytes[i] = 0;
+        i += 1;
+    }
 }

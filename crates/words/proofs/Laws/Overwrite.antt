@@ -24,6 +24,11 @@ lent bytes {stretch = stretch} at e =
     let n : at + length stretch - at ≡ length stretch = omega arith in
     rw (e, n)
 
+-- the same, of a part whose length is known by an equation
+pub lent-part : (bytes : List ℕ) {part stretch : List ℕ} (at count : ℕ) → count ≡ length stretch → part ≡ stretch
+    → take at bytes ++ (part ++ drop (at + count - at) (drop at bytes)) ≡ overwrite bytes at stretch
+lent-part bytes at count size e = rw size (lent bytes at e)
+
 module _ (bytes : List ℕ) (at : ℕ) (stretch : List ℕ) where
   pub overwrite-length : at + length stretch ≤ length bytes → length (overwrite bytes at stretch) ≡ length bytes
   unfolding overwrite
