@@ -105,22 +105,77 @@ pub fn record_place(ring: Ring, index: u32) -> usize
     ring.record_size as usize * (index as usize + 1)
 }
 
+fn widen(byte: u8) -> u32
+    ensures { λ r. ⌜ r ≡ byte ⌝ }
+{
+    byte as u32
+}
+
+// How many entries of 68, 72, .. 256 bytes a page holds.
+const SLOTS: [u8; 48] = [
+    60,
+    56,
+    53,
+    51,
+    48,
+    46,
+    44,
+    42,
+    40,
+    39,
+    37,
+    36,
+    35,
+    34,
+    33,
+    32,
+    31,
+    30,
+    29,
+    28,
+    27,
+    26,
+    26,
+    25,
+    24,
+    24,
+    23,
+    23,
+    22,
+    22,
+    21,
+    21,
+    20,
+    20,
+    20,
+    19,
+    19,
+    18,
+    18,
+    18,
+    17,
+    17,
+    17,
+    17,
+    16,
+    16,
+    16,
+    16,
+];
+
 pub fn slot_count(geometry: Geometry) -> u32
     requires { ⌜ allowed geometry ≡ true ⌝ }
     ensures { λ r. ⌜ r ≡ slotCount geometry ⌝ }
 {
-    4096 / geometry.entry_size
+    let size = (geometry.entry_size - 68) / 4;
+    widen(SLOTS[size as usize])
 }
 
-// Whether the slot's entry ends within the entry page, which is whether the slot is in range.
 pub fn is_slot(geometry: Geometry, slot: u32) -> bool
     requires { ⌜ allowed geometry ≡ true ⌝ }
     ensures { λ r. ⌜ r ≡ ltb slot (slotCount geometry) ⌝ }
 {
-    if slot >= 60 {
-        return false;
-    }
-    geometry.entry_size * (slot + 1) <= 4096
+    slot < slot_count(geometry)
 }
 
 pub fn entry_place(geometry: Geometry, slot: u32) -> usize

@@ -1,27 +1,26 @@
--- Slots of the entry page: how many there are, and which are in range.
-use Prim.Native.Nat.{ℕ, _+_, _*_, _^_, _≤_, _<_}
-use mathlib.Core.Path.{_≡_, sym, _∙_}
-use mathlib.Core.Bool.{false}
+-- Slots of the entry page: how many there are, where their entries lie, and the table that says how many.
+use Prim.Native.Nat.{ℕ, zero, suc, _+_, _-_, _*_, _/_, _≤_, _<_}
+use mathlib.Core.Path.{_≡_, refl, _∙_}
+use mathlib.Core.Bool.{Bool, true, _&&_}
+use mathlib.Core.List.{List, [], _∷_}
 use native.Mathlib.Omega.{arith}
-use native.Mathlib.Nat.{le-div-iff-mul-le, div-lt-iff-lt-mul, mul-comm, mul-le-mul}
-use native.Mathlib.Decide.{decLt}
-use lib.Dec.{leb, ltb}
-use borrow.Author.Tests.{lt-ltb, le-ltb, le-leb, lt-leb}
-use Rattle.geometry.specs.Geometry.{slotCount}
+use native.Mathlib.Nat.{le-div-iff-mul-le, div-lt-iff-lt-mul, mul-comm, mul-add, mul-one, zero-add, add-zero, add-suc, suc-add}
+use lib.Dec.{eqb}
+use lib.ListN.{length, getD}
+use borrow.Author.Tests.{eqb-true}
+use Rattle.geometry.specs.Geometry.{slotCount, entryPlace}
 use Rattle.geometry.specs.declared.Geometry.{Geometry}
-use Rattle.geometry.proofs.Laws.Allowed.{Sizes}
+use Rattle.geometry.proofs.Laws.Allowed.{Sizes, both}
 
 module _ (geometry : Geometry) (sized : Sizes geometry) where
-  -- a slot is in range exactly where its entry ends within the page
-  pub slot-inside : (slot : ℕ) → slot < slotCount geometry → geometry .«entry_size» * (slot + 1) ≤ 4096
+  -- the entry of a slot in range ends within the page
+  slot-inside : (slot : ℕ) → slot < slotCount geometry → geometry .«entry_size» * (slot + 1) ≤ 4096
   slot-inside slot h =
       let k : (slot + 1) * geometry .«entry_size» ≤ 4096 = le-div-iff-mul-le {k = geometry .«entry_size»} (omega arith) .0 (omega arith) in
       rw mul-comm k
 
-  pub slot-outside : (slot : ℕ) → slotCount geometry ≤ slot → 4096 < geometry .«entry_size» * (slot + 1)
-  slot-outside slot h =
-      let k : 4096 < (slot + 1) * geometry .«entry_size» = div-lt-iff-lt-mul {k = geometry .«entry_size»} (omega arith) .0 (omega arith) in
-      rw mul-comm k
+  pub entry-inside : (slot : ℕ) → slot < slotCount geometry → entryPlace geometry slot + geometry .«entry_size» ≤ 4096
+  entry-inside slot h = omega (arith, slot-inside slot h, mul-add (geometry .«entry_size») slot 1, mul-one (geometry .«entry_size»))
 
   pub few-slots : slotCount geometry ≤ 60
   few-slots =
@@ -29,16 +28,25 @@ module _ (geometry : Geometry) (sized : Sizes geometry) where
       let l : slotCount geometry < 61 = div-lt-iff-lt-mul {k = geometry .«entry_size»} (omega arith) .1 k in
       omega arith
 
-  pub past-all : (slot : ℕ) → 60 ≤ slot → ltb slot (slotCount geometry) ≡ false
-  past-all slot h = le-ltb slot (slotCount geometry) (omega (arith, few-slots))
+-- ---- the table of slots
 
-  pub entry-fits : (slot : ℕ) → slot < 60 → geometry .«entry_size» * (slot + 1) < 2 ^ 32
-  entry-fits slot h =
-      let p : geometry .«entry_size» * (slot + 1) ≤ 256 * 60 = mul-le-mul {m₁ = slot + 1} {m₂ = 60} (sized .entry-high) (omega arith) in
-      omega arith
+-- every value of a table is what a rule gives for its place
+matches : (ℕ → ℕ) → ℕ → List ℕ → Bool
+matches rule place [] = true
+matches rule place (value ∷ rest) = eqb value (rule place) && matches rule (suc place) rest
 
-  pub in-range : (slot : ℕ) → leb (geometry .«entry_size» * (slot + 1)) 4096 ≡ ltb slot (slotCount geometry)
-  in-range slot = elim (decLt slot (slotCount geometry)) [
-    | yes h ↦ le-leb _ 4096 (slot-inside slot h) ∙ sym (lt-ltb slot (slotCount geometry) h)
-    | no h ↦ lt-leb _ 4096 (slot-outside slot (omega arith)) ∙ sym (le-ltb slot (slotCount geometry) (omega arith))
-  ]
+from-table : (rule : ℕ → ℕ) (place : ℕ) (values : List ℕ) → matches rule place values ≡ true → (k : ℕ) → k < length values → getD values k 0 ≡ rule (place + k)
+unfolding matches
+from-table rule place [] h k low = absurd (omega arith)
+from-table rule place (value ∷ rest) h zero low = rw add-zero (eqb-true value (rule place) (both _ _ h .0))
+from-table rule place (value ∷ rest) h (suc k) low = rw (add-suc, ← suc-add) (from-table rule (suc place) rest (both (eqb value (rule place)) _ h .1) k (omega arith))
+
+unfoldable pub table : List ℕ
+table = 60 ∷ 56 ∷ 53 ∷ 51 ∷ 48 ∷ 46 ∷ 44 ∷ 42 ∷ 40 ∷ 39 ∷ 37 ∷ 36 ∷ 35 ∷ 34 ∷ 33 ∷ 32 ∷ 31 ∷ 30 ∷ 29 ∷ 28 ∷ 27 ∷ 26 ∷ 26 ∷ 25 ∷ 24 ∷ 24 ∷ 23 ∷ 23 ∷ 22 ∷ 22 ∷ 21 ∷ 21 ∷ 20 ∷ 20 ∷ 20 ∷ 19 ∷ 19 ∷ 18 ∷ 18 ∷ 18 ∷ 17 ∷ 17 ∷ 17 ∷ 17 ∷ 16 ∷ 16 ∷ 16 ∷ 16 ∷ []
+
+pub table-right : (geometry : Geometry) → Sizes geometry → getD table ((geometry .«entry_size» - 68) / 4) 0 ≡ slotCount geometry
+unfolding table matches
+table-right geometry sized =
+    let k : ℕ = (geometry .«entry_size» - 68) / 4 in
+    let size : 68 + 4 * k ≡ geometry .«entry_size» = omega (arith, sized .entry-fours) in
+    from-table (λ place. 4096 / (68 + 4 * place)) 0 table refl k (omega arith) ∙ rw (zero-add, size)
