@@ -3,3 +3,4 @@ pub mod Event
 pub mod Place
 pub mod Put
 pub mod Unread
+pub mod Unknown

@@ -1,6 +1,8 @@
 -- The unread records of a ring, oldest first.
 use Prim.Native.Nat.{ℕ, zero, suc, _%_, _<_}
+use mathlib.Core.Path.{_≡_}
 use mathlib.Core.List.{List, [], _∷_}
+use lib.ListN.{length}
 use Rattle.words.specs.Words.{Agree}
 use Rattle.geometry.specs.declared.Ring.{Ring}
 use Rattle.geometry.specs.Geometry.{recordPlace}
@@ -22,5 +24,6 @@ unread ring area read write = recordsFrom ring area read (unreadCount ring read 
 
 -- Two areas that are the same to a driver: it knows the pointers and the first 8 bytes of each record.
 pub record SameToDriver (ring : Ring) (left right : List ℕ) : Type 0 where
+  pub same-length : length left ≡ length right
   pub same-pointers : Agree left right 0 8
   pub same-records : (index : ℕ) → index < ring .length → Agree left right (recordPlace ring index) 8

@@ -4,16 +4,15 @@ use mathlib.Core.Path.{_≡_, refl, sym, ap, _∙_}
 use mathlib.Core.Logic.{_≢_}
 use mathlib.Core.List.{List, [], _∷_, _++_}
 use native.Mathlib.Omega.{arith}
-use native.Mathlib.Nat.{mod-lt, mod-eq-of-lt, mod-mod, suc-mod, add-zero, add-suc, suc-add}
+use native.Mathlib.Nat.{mod-eq-of-lt, mod-mod, suc-mod, add-zero, add-suc, suc-add}
 use native.Mathlib.Numerals.{add-one}
 use lib.ListN.{length}
 use Rattle.geometry.specs.declared.Ring.{Ring}
 use Rattle.geometry.specs.Geometry.{recordPlace}
 use Rattle.records.specs.Event.{EventFits, eventAt}
 use Rattle.records.specs.Ring.{Holds, withReadPointer, nextIndex, unreadCount, putRecord}
-use Rattle.records.specs.Unread.{recordAt, recordsFrom, unread, SameToDriver}
+use Rattle.records.specs.Unread.{recordAt, recordsFrom, unread}
 use Rattle.records.specs.declared.Event.{Event}
-use Rattle.records.proofs.Laws.Event.{agree-event}
 use Rattle.records.proofs.Laws.Index.{places-apart, unread-end, unread-more, unread-fewer, unread-none, unread-self}
 use Rattle.records.proofs.Laws.Put.{put-same, put-other, moved-record}
 
@@ -42,19 +41,12 @@ module _ (ring : Ring) (area : List ℕ) where
       rw (records-last (suc index) count, e)
 
 -- two areas with the same records
-same-records : (ring : Ring) (left right : List ℕ)
+pub same-records : (ring : Ring) (left right : List ℕ)
     → ((index : ℕ) → eventAt left (recordPlace ring (index % ring .length)) ≡ eventAt right (recordPlace ring (index % ring .length)))
     → (index count : ℕ) → recordsFrom ring left index count ≡ recordsFrom ring right index count
 unfolding recordsFrom
 same-records ring left right same index zero = refl
 same-records ring left right same index (suc count) = cc (same index, same-records ring left right same (suc index) count)
-
--- bytes that a driver doesn't know of
-pub unknown-bytes : (ring : Ring) (left right : List ℕ) → 0 < ring .length → SameToDriver ring left right
-    → (read write : ℕ) → unread ring left read write ≡ unread ring right read write
-unknown-bytes ring left right some same read write =
-    same-records ring left right (λ index. agree-event left right (recordPlace ring (index % ring .length)) (same .same-records (index % ring .length) (mod-lt index some)))
-    read (unreadCount ring read write)
 
 module _ (ring : Ring) (area : List ℕ) (holds : Holds (length area) ring) where
   -- ---- a put
