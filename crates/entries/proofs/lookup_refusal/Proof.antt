@@ -1,0 +1,82 @@
+use Prim.Native.Nat.{_+_, _≤_}
+use mathlib.Core.Bool.{true}
+use lib.ListN.{length}
+use Rattle.geometry.specs.Geometry.{allowed, slotCount}
+use native.Mathlib.Omega.{arith}
+use borrow.Author.Tests.{eq-eqb, ne-eqb, ltb-true, not-false}
+use mathlib.Core.Path.{_≡_, sym, _∙_}
+use Rattle.entries.proofs.Laws.Lookup.{known-part, known-inside}
+use Rattle.answers.specs.Refusals.{firstRefusal}
+use borrow.Author.Needs.{needs}
+use Rattle.entries.proofs.lookup_refusal.Statement.{statement}
+use Rattle.entries.proofs.lookup_refusal.Tie as tie
+
+-- the entry's known bytes lie in the page
+inside : (c : tie.After-entry-place) → c .entry-place .result + 68 ≤ length (c .before .before .before .before .before .before .before .args .page .now)
+inside c =
+    let s = c .before .before .before .before .before .before .before in
+    let ok : allowed (s .args .geometry) ≡ true = sym (c .before .before .before .before .before .is-allowed .ensures) ∙ not-false _ (c .before .before .before .before .if1 .left) in
+    let low = ltb-true (s .args .slot) (slotCount (s .args .geometry)) (sym (c .before .before .is-slot .ensures) ∙ not-false _ (c .before .if3 .left)) in
+    omega (arith, c .entry-place .ensures, c .before .before .before .if2 .left, known-inside (s .args .geometry) (s .args .slot) ok low)
+
+is-allowed-requires : tie.Need-is-allowed-requires
+is-allowed-requires c κs = search needs
+
+returns : tie.Need-returns
+unfolding firstRefusal
+returns c = rw (← c .before .is-allowed .ensures, c .if1 .taken)
+
+returns-2 : tie.Need-returns-2
+unfolding firstRefusal
+returns-2 c = rw (← c .before .before .is-allowed .ensures, c .before .if1 .left, ne-eqb _ _ (c .if2 .taken))
+
+is-slot-requires : tie.Need-is-slot-requires
+is-slot-requires c κs = sym (c .before .before .is-allowed .ensures) ∙ not-false _ (c .before .if1 .left)
+
+returns-3 : tie.Need-returns-3
+unfolding firstRefusal
+returns-3 c = rw (← c .before .before .before .before .is-allowed .ensures, c .before .before .before .if1 .left, eq-eqb _ _ (c .before .before .if2 .left), ← c .before .is-slot .ensures, c .if3 .taken)
+
+entry-place-requires : tie.Need-entry-place-requires
+entry-place-requires c κs = search needs
+
+add-is-present : tie.Need-add-is-present
+add-is-present c = omega (arith, inside c)
+
+sub-is-present : tie.Need-sub-is-present
+sub-is-present c = search needs
+
+part-is-present-start : tie.Need-part-is-present-start
+part-is-present-start c = search needs
+
+part-is-present-end : tie.Need-part-is-present-end
+part-is-present-end c = omega (arith, inside c)
+
+is-present-requires : tie.Need-is-present-requires
+is-present-requires c κs = search needs
+
+returns-4 : tie.Need-returns-4
+unfolding firstRefusal
+returns-4 c = rw (← c .before .before .before .before .before .before .before .before .is-allowed .ensures, c .before .before .before .before .before .before .before .if1 .left, eq-eqb _ _ (c .before .before .before .before .before .before .if2 .left), ← c .before .before .before .before .before .is-slot .ensures, c .before .before .before .before .if3 .left, ← known-part (c .before .before .before .before .before .before .before .before .before .before .args .geometry) _ _ (c .before .before .before .entry-place .ensures), ← c .before .is-present .ensures, c .if4 .taken)
+
+returns-5 : tie.Need-returns-5
+unfolding firstRefusal
+returns-5 c = rw (← c .before .before .before .before .before .before .before .before .is-allowed .ensures, c .before .before .before .before .before .before .before .if1 .left, eq-eqb _ _ (c .before .before .before .before .before .before .if2 .left), ← c .before .before .before .before .before .is-slot .ensures, c .before .before .before .before .if3 .left, ← known-part (c .before .before .before .before .before .before .before .before .before .before .args .geometry) _ _ (c .before .before .before .entry-place .ensures), ← c .before .is-present .ensures, c .if4 .left)
+
+pub lookup-refusal-spec : {M : Type 1} → statement M
+lookup-refusal-spec =
+    tie.close
+    (tie.spec
+    is-allowed-requires
+    returns
+    returns-2
+    is-slot-requires
+    returns-3
+    entry-place-requires
+    add-is-present
+    sub-is-present
+    part-is-present-start
+    part-is-present-end
+    is-present-requires
+    returns-4
+    returns-5)

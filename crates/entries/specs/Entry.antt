@@ -1,0 +1,48 @@
+-- Device entries (01, "Writing records"): the fields in the 68 bytes that are known of an entry, and its place in the entry page.
+use Prim.Native.Nat.{ℕ, _+_, _*_, _/_, _%_, _^_}
+use mathlib.Core.Bool.{Bool}
+use mathlib.Core.List.{List}
+use lib.Dec.{eqb}
+use lib.ListN.{take, drop, replicate}
+use Rattle.words.specs.Words.{u32At, overwrite}
+use Rattle.geometry.specs.declared.Geometry.{Geometry}
+use Rattle.geometry.specs.Geometry.{entryPlace}
+
+abbrev pub knownLength : ℕ
+knownLength = 68
+
+-- The name, in text: 40 bytes.
+abbrev pub nameOf : List ℕ → List ℕ
+nameOf entry = take 40 entry
+
+-- Which event types are used, a bit each.
+abbrev pub evbits : List ℕ → ℕ
+evbits entry = u32At entry 40
+
+-- The words of the masks of absolute codes (two), relative codes (one) and buttons (three).
+abbrev pub absbits : List ℕ → ℕ → ℕ
+absbits entry word = u32At entry (44 + 4 * word)
+
+abbrev pub relbits : List ℕ → ℕ
+relbits entry = u32At entry 52
+
+abbrev pub btnbits : List ℕ → ℕ → ℕ
+btnbits entry word = u32At entry (56 + 4 * word)
+
+abbrev pub bit : ℕ → ℕ → Bool
+bit word index = eqb (word / 2 ^ index % 2) 1
+
+-- An entry is there when evbits bit 0 is set.
+abbrev pub isPresent : List ℕ → Bool
+isPresent entry = bit (evbits entry) 0
+
+-- The known bytes of a slot's entry in the entry page.
+abbrev pub entryAt : Geometry → List ℕ → ℕ → List ℕ
+entryAt geometry page slot = take knownLength (drop (entryPlace geometry slot) page)
+
+-- An add stores all S bytes, a remove zeroes them.
+abbrev pub withEntry : Geometry → ℕ → List ℕ → List ℕ → List ℕ
+withEntry geometry slot entry page = overwrite page (entryPlace geometry slot) entry
+
+abbrev pub withoutEntry : Geometry → ℕ → List ℕ → List ℕ
+withoutEntry geometry slot page = withEntry geometry slot (replicate (geometry .«entry_size») 0) page
