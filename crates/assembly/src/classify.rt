@@ -1,0 +1,80 @@
+// What a record is to the driver.
+use crate::ALL_SLOTS;
+use crate::Kind;
+use crate::UNKNOWN_SLOT;
+use geometry::Geometry;
+use records::Event;
+ghost use mathlib.Core.Path.{_≡_};
+ghost use mathlib.Core.Bool.{true};
+ghost use Rattle.geometry.specs.Geometry.{allowed};
+ghost use Rattle.assembly.specs.Kind.{synKind, devSetKind, devConfKind, devResetKind, devKind, kindOf};
+
+fn syn_kind(code: u16) -> Kind
+    ensures { λ r. ⌜ r ≡ synKind code ⌝ }
+{
+    match code {
+        0 => Kind::SynReport,
+        3 => Kind::SynDropped,
+        _ => Kind::Other,
+    }
+}
+
+fn dev_set_kind(geometry: Geometry, value: u32) -> Kind
+    requires { ⌜ allowed geometry ≡ true ⌝ }
+    ensures { λ r. ⌜ r ≡ devSetKind geometry value ⌝ }
+{
+    if geometry::is_slot(geometry, value) {
+        return Kind::DevSet;
+    }
+    if value == UNKNOWN_SLOT {
+        return Kind::DevSet;
+    }
+    Kind::BadDevSet
+}
+
+fn dev_conf_kind(geometry: Geometry, value: u32) -> Kind
+    requires { ⌜ allowed geometry ≡ true ⌝ }
+    ensures { λ r. ⌜ r ≡ devConfKind geometry value ⌝ }
+{
+    if geometry::is_slot(geometry, value) {
+        return Kind::DevConf;
+    }
+    Kind::BadDev
+}
+
+fn dev_reset_kind(geometry: Geometry, value: u32) -> Kind
+    requires { ⌜ allowed geometry ≡ true ⌝ }
+    ensures { λ r. ⌜ r ≡ devResetKind geometry value ⌝ }
+{
+    if geometry::is_slot(geometry, value) {
+        return Kind::DevReset;
+    }
+    if value == ALL_SLOTS {
+        return Kind::DevResetAll;
+    }
+    Kind::BadDev
+}
+
+fn dev_kind(geometry: Geometry, code: u16, value: u32) -> Kind
+    requires { ⌜ allowed geometry ≡ true ⌝ }
+    ensures { λ r. ⌜ r ≡ devKind geometry code value ⌝ }
+{
+    match code {
+        1 => dev_set_kind(geometry, value),
+        2 => dev_conf_kind(geometry, value),
+        3 => dev_reset_kind(geometry, value),
+        _ => Kind::BadDev,
+    }
+}
+
+pub(crate) fn kind_of(geometry: Geometry, event: Event) -> Kind
+    requires { ⌜ allowed geometry ≡ true ⌝ }
+    ensures { λ r. ⌜ r ≡ kindOf geometry event ⌝ }
+{
+    let kind = event.kind;
+    match kind {
+        0 => syn_kind(event.code),
+        6 => dev_kind(geometry, event.code, event.value),
+        _ => Kind::Other,
+    }
+}

@@ -1,0 +1,75 @@
+// What each record does to a driver: events are collected into packets, and each packet is told whole.
+mod classify;
+mod transition;
+
+use records::Event;
+pub use transition::receive;
+ghost use mathlib.Core.Path.{_≡_};
+ghost use Rattle.assembly.specs.Transition.{freshDriver};
+
+// The slots that have no entry, and the value of a reset of all.
+pub const NO_SLOT: u32 = 0xFFFF_FFFE;
+
+pub const UNKNOWN_SLOT: u32 = 0xFFFF_FFFF;
+
+pub const ALL_SLOTS: u32 = 0xFFFF;
+
+// A packet is collected in the first `held` of `events`.
+#[repr(C)]
+pub struct Driver {
+    pub slot: u32,
+    pub held: u32,
+    pub events: [Event; 32],
+    pub overlong: bool,
+    pub spoiled: bool,
+    pub ignoring: bool,
+}
+
+// What a record is, by its type, code and value.
+pub enum Kind {
+    SynReport,
+    SynDropped,
+    DevSet,
+    DevConf,
+    DevReset,
+    DevResetAll,
+    BadDevSet,
+    BadDev,
+    Other,
+}
+
+// What a step tells. A packet's events are the first `count` of the returned driver's.
+pub enum Told {
+    Refused(u8),
+    Nothing,
+    Gap,
+    EmptyReport,
+    Packet { slot: u32, count: u32 },
+    Set(u32),
+    Conf(u32),
+    Reset(u32),
+    ResetAll,
+}
+
+pub struct Stepped {
+    pub told: Told,
+    pub driver: Driver,
+}
+
+pub fn fresh() -> Driver
+    ensures { λ r. ⌜ r ≡ freshDriver ⌝ }
+{
+    let none = Event {
+        kind: 0,
+        code: 0,
+        value: 0,
+    };
+    Driver {
+        slot: NO_SLOT,
+        held: 0,
+        events: [none; 32],
+        overlong: false,
+        spoiled: false,
+        ignoring: false,
+    }
+}

@@ -1,0 +1,67 @@
+-- The number that a step tells is the one that the order of refusals gives.
+use Prim.Native.Nat.{ℕ}
+use mathlib.Core.Path.{_≡_, refl, ap, _∙_}
+use mathlib.Core.Bool.{Bool, true, false, cond}
+use mathlib.Core.List.{List}
+use lib.Dec.{leb, eqb}
+use lib.ListN.{length}
+use Rattle.answers.specs.Refusals.{firstRefusal}
+use Rattle.geometry.specs.declared.Geometry.{Geometry}
+use Rattle.geometry.specs.Geometry.{ringLength, ringOf}
+use Rattle.records.specs.declared.Event.{Event}
+use Rattle.records.specs.Ring.{readPointer, writePointer}
+use Rattle.records.specs.Unread.{recordAt}
+use Rattle.assembly.specs.declared.Driver.{Driver}
+use Rattle.assembly.specs.declared.Stepped.{Stepped}
+use Rattle.assembly.specs.declared.Kind.{Kind}
+use Rattle.assembly.specs.declared.Kind.the-variants.{SynReport, SynDropped, DevSet, DevConf, DevReset, DevResetAll, BadDevSet, BadDev, Other}
+use Rattle.assembly.specs.Kind.{kindOf}
+use Rattle.assembly.specs.Transition.{answerOf, reported, received}
+use Rattle.driver.specs.Reader.{readingRefusal, oldestOf}
+use Rattle.driver.specs.Step.{isValid, stepOf}
+use Rattle.driver.specs.Answer.{isMalformed, stepAnswer}
+
+report-answer : (driver : Driver) → answerOf (reported driver) ≡ cond (isMalformed SynReport driver) 9 0
+unfolding reported
+report-answer driver = go (driver .ignoring) (driver .spoiled) (driver .overlong) (eqb (driver .held) 0) refl refl refl refl
+  where
+    go : (a b c d : Bool) → driver .ignoring ≡ a → driver .spoiled ≡ b → driver .overlong ≡ c → eqb (driver .held) 0 ≡ d
+        → answerOf (reported driver) ≡ cond (isMalformed SynReport driver) 9 0
+    go true b c d p q r s = rw p
+    go false true c d p q r s = rw (p, q)
+    go false false true d p q r s = rw (p, q, r)
+    go false false false true p q r s = rw (p, q, r, s)
+    go false false false false p q r s = rw (p, q, r, s)
+
+record-answer : (kind : Kind) (event : Event) (driver : Driver) → answerOf (received kind event driver .told) ≡ cond (isMalformed kind driver) 9 0
+record-answer SynReport event driver = report-answer driver
+record-answer SynDropped event driver = refl
+record-answer DevSet event driver = refl
+record-answer DevConf event driver = refl
+record-answer DevReset event driver = refl
+record-answer DevResetAll event driver = refl
+record-answer BadDevSet event driver = refl
+record-answer BadDev event driver = refl
+record-answer Other event driver = refl
+
+module _ (geometry : Geometry) (driver : Driver) (area : List ℕ) where
+  step-answer : answerOf (stepOf geometry driver area .stepped .told) ≡ stepAnswer geometry driver area
+  unfolding stepOf oldestOf readingRefusal firstRefusal
+  step-answer =
+      go (isValid geometry driver (length area)) (leb (ringLength geometry) (readPointer area)) (leb (ringLength geometry) (writePointer area))
+      (eqb (readPointer area) (writePointer area)) refl refl refl refl
+    where
+      go : (a b c d : Bool) → isValid geometry driver (length area) ≡ a → leb (ringLength geometry) (readPointer area) ≡ b → leb (ringLength geometry) (writePointer area) ≡ c
+          → eqb (readPointer area) (writePointer area) ≡ d → answerOf (stepOf geometry driver area .stepped .told) ≡ stepAnswer geometry driver area
+      go false b c d p q r s = rw p
+      go true true c d p q r s = rw (p, q)
+      go true false true d p q r s = rw (p, q, r)
+      go true false false true p q r s = rw (p, q, r, s)
+      go true false false false p q r s =
+          rw (p, q, r, s) (record-answer (kindOf geometry (recordAt (ringOf geometry) area (readPointer area))) (recordAt (ringOf geometry) area (readPointer area)) driver)
+
+  -- a step's result and area, with the number that it tells
+  pub answered : {result : Stepped} {after : List ℕ}
+      → (result ≡ stepOf geometry driver area .stepped) × (after ≡ stepOf geometry driver area .area)
+      → (result ≡ stepOf geometry driver area .stepped) × ((after ≡ stepOf geometry driver area .area) × (answerOf (result .told) ≡ stepAnswer geometry driver area))
+  answered e = (e .0, (e .1, ap (λ (s : Stepped). answerOf (s .told)) (e .0) ∙ step-answer))

@@ -1,0 +1,110 @@
+use mathlib.Core.Path.{_≡_, sym, _∙_}
+use mathlib.Core.Bool.{true}
+use native.Mathlib.Omega.{arith}
+use lib.ListN.{length}
+use borrow.Author.Tests.{not-true, not-false}
+use Rattle.records.proofs.Laws.Place.{pointers-inside}
+use Rattle.driver.specs.Reader.{isSized}
+use Rattle.driver.proofs.Laws.Reader.{sized, sized-holds, Possible, possible}
+use Rattle.driver.proofs.Laws.CopyResult.{copy-invalid, copy-refused, copy-done}
+use borrow.Author.Needs.{needs}
+use Rattle.driver.proofs.copy.copy_out.Statement.{statement}
+use Rattle.driver.proofs.copy.copy_out.Tie as tie
+
+-- the area of a call that goes on has its length
+known : (c : tie.Else1) → isSized (c .before .before .before .before .args .geometry) (length (c .before .before .before .before .args .area .now)) ≡ true
+known c = sym (c .before .is-sized .ensures) ∙ not-false _ (c .if1 .left)
+
+-- the pointers of a call that is not refused are possible
+inside : (c : tie.Else2) → Possible (c .before .before .before .before .before .before .ring-of .result) (c .before .before .before .before .read-pointer .result) (c .before .before .write-pointer .result)
+inside c = possible _ _ _ (sym (c .before .reading-refusal .ensures) ∙ c .if2 .left)
+
+is-sized-requires : tie.Need-is-sized-requires
+is-sized-requires c κs = search needs
+
+refused-requires : tie.Need-refused-requires
+refused-requires c κs = search needs
+
+returns : tie.Need-returns
+returns c = copy-invalid (c .before .before .before .before .before .args .geometry) (c .before .before .before .before .before .args .area .now) (c .before .before .before .before .before .args .limit) (c .before .before .before .before .before .args .out .now) (sym (c .before .before .is-sized .ensures) ∙ not-true _ (c .before .if1 .taken)) (c .refused .ensures)
+
+ring-of-requires : tie.Need-ring-of-requires
+ring-of-requires c κs = sized _ _ (known c) .0
+
+read-pointer-requires : tie.Need-read-pointer-requires
+read-pointer-requires c κs = pointers-inside _ _ (sized-holds (c .before .before .before .before .before .before .args .geometry) (c .before .before .before .before .before .before .args .area .now) (known (c .before .before)))
+
+write-pointer-requires : tie.Need-write-pointer-requires
+write-pointer-requires c κs = pointers-inside _ _ (sized-holds (c .before .before .before .before .before .before .before .before .args .geometry) (c .before .before .before .before .before .before .before .before .args .area .now) (known (c .before .before .before .before)))
+
+reading-refusal-requires : tie.Need-reading-refusal-requires
+reading-refusal-requires c κs = search needs
+
+refused-requires-2 : tie.Need-refused-requires-2
+refused-requires-2 c κs = search needs
+
+same-length : tie.Need-same-length
+same-length c = search needs
+
+returns-2 : tie.Need-returns-2
+returns-2 c = copy-refused (c .before .before .before .before .before .before .before .before .before .before .before .before .args .geometry) (c .before .before .before .before .before .before .before .before .before .before .before .before .args .area .now) (c .before .before .before .before .before .before .before .before .before .before .before .before .args .limit) (c .before .before .before .before .before .before .before .before .before .before .before .before .args .out .now) (known (c .before .before .before .before .before .before .before .before)) (c .before .before .before .before .before .read-pointer .ensures) (c .before .before .before .write-pointer .ensures) (rw (c .before .before .before .before .before .before .before .ring-of .ensures) at (c .before .before .reading-refusal .ensures)) (c .before .if2 .taken) (c .refused2 .ensures)
+
+unread-count-requires : tie.Need-unread-count-requires
+unread-count-requires c κs = let p = inside c in (p .read-inside, p .write-inside)
+
+cast-unread : tie.Need-cast-unread
+cast-unread c = search needs
+
+smaller-requires : tie.Need-smaller-requires
+smaller-requires c κs = search needs
+
+smaller-requires-2 : tie.Need-smaller-requires-2
+smaller-requires-2 c κs = search needs
+
+copy-records-requires : tie.Need-copy-records-requires
+copy-records-requires c κs = let p = inside (c .before .before .before .before .before) in
+    let few = c .before .before .before .smaller .ensures .2 in
+    let least = c .before .before .smaller2 .ensures .2 in
+    (rw (c .before .before .before .before .before .before .before .before .before .before .before .ring-of .ensures) (sized-holds (c .before .before .before .before .before .before .before .before .before .before .before .before .before .before .before .before .args .geometry) (c .before .before .before .before .before .before .before .before .before .before .before .before .before .before .before .before .args .area .now) (known (c .before .before .before .before .before .before .before .before .before .before .before .before))), (p .read-inside, omega arith))
+
+set-read-pointer-requires : tie.Need-set-read-pointer-requires
+set-read-pointer-requires c κs = pointers-inside _ _ (sized-holds (c .before .before .before .before .before .before .before .before .before .before .before .before .before .before .before .before .before .before .before .before .args .geometry) (c .before .before .before .before .before .before .before .before .before .before .before .before .before .before .before .before .before .before .before .before .args .area .now) (known (c .before .before .before .before .before .before .before .before .before .before .before .before .before .before .before .before)))
+
+cast-t19 : tie.Need-cast-t19
+cast-t19 c = search needs
+
+same-length-2 : tie.Need-same-length-2
+same-length-2 c = search needs
+
+same-length-3 : tie.Need-same-length-3
+same-length-3 c = search needs
+
+returns-3 : tie.Need-returns-3
+returns-3 c = let ring = c .before .before .before .before .before .before .before .before .before .before .before .before .before .before .before .before .before .before .ring-of .ensures in
+    let copied = c .before .before .before .before .before .before .copy-records .ensures in
+    copy-done (c .before .before .before .before .before .before .before .before .before .before .before .before .before .before .before .before .before .before .before .before .before .before .before .args .geometry) (c .before .before .before .before .before .before .before .before .before .before .before .before .before .before .before .before .before .before .before .before .before .before .before .args .area .now) (c .before .before .before .before .before .before .before .before .before .before .before .before .before .before .before .before .before .before .before .before .before .before .before .args .limit) (c .before .before .before .before .before .before .before .before .before .before .before .before .before .before .before .before .before .before .before .before .before .before .before .args .out .now) (known (c .before .before .before .before .before .before .before .before .before .before .before .before .before .before .before .before .before .before .before)) (c .before .before .before .before .before .before .before .before .before .before .before .before .before .before .before .before .read-pointer .ensures) (c .before .before .before .before .before .before .before .before .before .before .before .before .before .before .write-pointer .ensures) (rw ring at (c .before .before .before .before .before .before .before .before .before .before .before .before .before .reading-refusal .ensures)) (c .before .before .before .before .before .before .before .before .before .before .before .before .if2 .left) (rw ring at (c .before .before .before .before .before .before .before .before .before .before .before .unread-count .ensures)) (c .before .before .before .before .before .before .before .before .before .before .smaller .ensures .0) (c .before .before .before .before .before .before .before .before .before .smaller2 .ensures .0) (rw ring at (copied .0)) (c .before .before .set-read-pointer .ensures) (rw ring at (copied .1))
+
+pub copy-out-spec : {M : Type 1} → statement M
+copy-out-spec =
+    tie.close
+    (tie.spec
+    is-sized-requires
+    refused-requires
+    returns
+    ring-of-requires
+    read-pointer-requires
+    write-pointer-requires
+    reading-refusal-requires
+    refused-requires-2
+    same-length
+    returns-2
+    unread-count-requires
+    cast-unread
+    smaller-requires
+    smaller-requires-2
+    copy-records-requires
+    set-read-pointer-requires
+    cast-t19
+    same-length-2
+    same-length-3
+    returns-3)

@@ -1,0 +1,24 @@
+use Rattle.answers.specs.Refusals.{firstRefusal}
+use Rattle.driver.specs.Reader.{readingRefusal}
+use borrow.Author.Tests.{eq-eqb, le-leb, lt-leb, ne-eqb}
+use Rattle.driver.proofs.reading_refusal.Statement.{statement}
+use Rattle.driver.proofs.reading_refusal.Tie as tie
+
+returns : tie.Need-returns
+unfolding readingRefusal firstRefusal
+returns c = rw (le-leb _ _ (c .if1 .taken))
+
+returns-2 : tie.Need-returns-2
+unfolding readingRefusal firstRefusal
+returns-2 c = rw (lt-leb _ _ (c .before .before .if1 .left), le-leb _ _ (c .if2 .taken))
+
+returns-3 : tie.Need-returns-3
+unfolding readingRefusal firstRefusal
+returns-3 c = rw (lt-leb _ _ (c .before .before .before .if1 .left), lt-leb _ _ (c .before .if2 .left), eq-eqb _ _ (c .if3 .taken))
+
+returns-4 : tie.Need-returns-4
+unfolding readingRefusal firstRefusal
+returns-4 c = rw (lt-leb _ _ (c .before .before .before .if1 .left), lt-leb _ _ (c .before .if2 .left), ne-eqb _ _ (c .if3 .left))
+
+pub reading-refusal-spec : {M : Type 1} → statement M
+reading-refusal-spec = tie.close (tie.spec returns returns-2 returns-3 returns-4)

@@ -1,0 +1,4 @@
+pub mod Reader
+pub mod Step
+pub mod Answer
+pub mod CopyOut

@@ -1,0 +1,47 @@
+-- A driver's step (01, "The driver's side"): 1, 10, 11; then one record is read, and r advances modulo R.
+use Prim.Native.Nat.{ℕ}
+use mathlib.Core.Bool.{Bool, true, false, _&&_, _||_, cond}
+use mathlib.Core.List.{List}
+use lib.Dec.{leb, eqb}
+use lib.ListN.{length, replicate}
+use Rattle.answers.specs.Answers.{invalid}
+use Rattle.geometry.specs.declared.Geometry.{Geometry}
+use Rattle.geometry.specs.Geometry.{ringOf}
+use Rattle.records.specs.Ring.{withReadPointer, nextIndex}
+use Rattle.assembly.specs.declared.Driver.{Driver}
+use Rattle.assembly.specs.declared.Stepped.{Stepped}
+use Rattle.assembly.specs.declared.Told.the-variants as told
+use Rattle.driver.specs.declared.Oldest.{Oldest}
+use Rattle.driver.specs.declared.Oldest.the-variants as oldest
+use Rattle.assembly.specs.Kind.{noSlot, unknownSlot, isSlot}
+use Rattle.assembly.specs.Transition.{tells, receive}
+use Rattle.driver.specs.Reader.{isSized, oldestOf}
+
+-- At most 32 events are held, and the slot is none, unknown or in range.
+unfoldable pub isDriver : Geometry → Driver → Bool
+isDriver geometry driver =
+    leb (driver .held) 32
+    && (eqb (driver .slot) noSlot || (eqb (driver .slot) unknownSlot || isSlot geometry (driver .slot)))
+
+-- A step is refused with 1 for the geometry, the area's length or the driver's state.
+unfoldable pub isValid : Geometry → Driver → ℕ → Bool
+isValid geometry driver size = isSized geometry size && isDriver geometry driver
+
+-- What a step leaves: what it tells with the driver's state, and the event area.
+pub record StepResult : Type 0 where
+  pub stepped : Stepped
+  pub area : List ℕ
+
+-- Where no record was read, the step ends with that answer and changes nothing.
+abbrev pub stepOn : Geometry → Driver → List ℕ → Oldest → StepResult
+stepOn geometry driver area (oldest.Record index event) = record {
+  stepped = receive geometry event driver;
+  area = withReadPointer area (nextIndex (ringOf geometry) index);
+}
+stepOn geometry driver area (oldest.Refused number) = record { stepped = tells (told.Refused number) driver; area = area }
+
+unfoldable pub stepOf : Geometry → Driver → List ℕ → StepResult
+stepOf geometry driver area =
+    cond (isValid geometry driver (length area))
+    (stepOn geometry driver area (oldestOf (ringOf geometry) area))
+    (stepOn geometry driver area (oldest.Refused invalid))

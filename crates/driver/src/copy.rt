@@ -1,0 +1,79 @@
+// Copy-out: the oldest records, several at a time.
+use crate::Copied;
+use crate::is_sized;
+use crate::reading_refusal;
+use answers::DONE;
+use answers::INVALID;
+use geometry::Geometry;
+use geometry::Ring;
+ghost use mathlib.Core.Path.{_≡_};
+ghost use Prim.Native.Nat.{_+_, _*_, _%_, _≤_, _<_, min};
+ghost use lib.ListN.{length};
+ghost use Rattle.words.specs.Words.{overwrite};
+ghost use Rattle.geometry.specs.Geometry.{ringOf};
+ghost use Rattle.records.specs.Ring.{Holds, readPointer, unreadCount};
+ghost use Rattle.driver.specs.CopyOut.{bytesFrom, refusedCopy, copyOf};
+
+fn smaller(left: usize, right: usize) -> usize
+    ensures { λ r. ⌜ (r ≡ min left right) × (r ≤ left) × (r ≤ right) ⌝ }
+{
+    if left <= right {
+        return left;
+    }
+    right
+}
+
+// Copies the first eight bytes of so many records from an index on, and answers the index after them.
+fn copy_records(ring: Ring, area: &[u8], first: u32, count: usize, out: &mut [u8]) -> u32
+    requires { ⌜ Holds (length (now area)) ring ⌝ }
+    requires { ⌜ (first < ring .length) × (count * 8 ≤ length (now out)) ⌝ }
+    ensures { λ r. ⌜ (r ≡ (first + count) % ring .length) × (now (out .exit) ≡ overwrite (now (out .entry)) 0 (bytesFrom ring (now (area .entry)) first count)) ⌝ }
+{
+    let mut index = first;
+    let mut at: usize = 0;
+    let mut left = count;
+    while 0 < left {
+        let place = geometry::record_place(ring, index);
+        words::copy(out, at, &area[place..place + 8]);
+        index = records::next_index(ring, index);
+        at += 8;
+        left -= 1;
+    }
+    index
+}
+
+fn refused(answer: u8) -> Copied
+    ensures { λ r. ⌜ r ≡ refusedCopy answer ⌝ }
+{
+    Copied {
+        answer: answer,
+        count: 0,
+    }
+}
+
+// Each pointer is fetched once. The count is the number of records copied, and how far the read pointer moved.
+pub fn copy_out(geometry: Geometry, area: &mut [u8], limit: u32, out: &mut [u8]) -> Copied
+    ensures { λ r. ⌜ r ≡ copyOf geometry (now (area .entry)) limit (now (out .entry)) .copied ⌝ }
+    ensures { λ r. ⌜ now (area .exit) ≡ copyOf geometry (now (area .entry)) limit (now (out .entry)) .area ⌝ }
+    ensures { λ r. ⌜ now (out .exit) ≡ copyOf geometry (now (area .entry)) limit (now (out .entry)) .out ⌝ }
+    ensures { λ r. ⌜ (r .answer ≡ 0 → r .count ≡ unreadCount (ringOf geometry) (readPointer (now (area .entry))) (readPointer (now (area .exit)))) ⌝ }
+{
+    if !is_sized(geometry, area.len()) {
+        return refused(INVALID);
+    }
+    let ring = geometry::ring_of(geometry);
+    let read = records::read_pointer(&area[..]);
+    let write = records::write_pointer(&area[..]);
+    let refusal = reading_refusal(ring, read, write);
+    if refusal != DONE {
+        return refused(refusal);
+    }
+    let unread = records::unread_count(ring, read, write) as usize;
+    let count = smaller(unread, smaller(limit as usize, out.len() / 8));
+    let next = copy_records(ring, &area[..], read, count, out);
+    records::set_read_pointer(area, next);
+    Copied {
+        answer: DONE,
+        count: count as u32,
+    }
+}

@@ -1,0 +1,139 @@
+// The guest's reader of the event area: one record a step, or several copied out.
+mod copy;
+
+use answers::BAD_INDEX;
+use answers::DONE;
+use answers::INVALID;
+use answers::NOTHING_TO_READ;
+use assembly::Driver;
+use assembly::NO_SLOT;
+use assembly::Stepped;
+use assembly::Told;
+use assembly::UNKNOWN_SLOT;
+use assembly::receive;
+pub use copy::copy_out;
+use geometry::Geometry;
+use geometry::Ring;
+use records::Event;
+ghost use mathlib.Core.Path.{_≡_};
+ghost use mathlib.Core.Bool.{true};
+ghost use lib.ListN.{length};
+ghost use Rattle.geometry.specs.Geometry.{allowed};
+ghost use Rattle.records.specs.Ring.{Holds};
+ghost use Rattle.driver.specs.Reader.{isSized, readingRefusal, oldestOf, refusalOf};
+ghost use Rattle.assembly.specs.Transition.{answerOf};
+ghost use Rattle.driver.specs.Answer.{stepAnswer};
+ghost use Rattle.driver.specs.Step.{isDriver, isValid, stepOf};
+
+// The oldest unread record and its index, or why there is none.
+pub enum Oldest {
+    Record { index: u32, event: Event },
+    Refused(u8),
+}
+
+// What a copy-out answers, and how many records it copied.
+#[repr(C)]
+pub struct Copied {
+    pub answer: u8,
+    pub count: u32,
+}
+
+fn is_driver(geometry: Geometry, driver: Driver) -> bool
+    requires { ⌜ allowed geometry ≡ true ⌝ }
+    ensures { λ r. ⌜ r ≡ isDriver geometry driver ⌝ }
+{
+    if driver.held > 32 {
+        return false;
+    }
+    let slot = driver.slot;
+    if slot == NO_SLOT {
+        return true;
+    }
+    if slot == UNKNOWN_SLOT {
+        return true;
+    }
+    geometry::is_slot(geometry, slot)
+}
+
+pub(crate) fn is_sized(geometry: Geometry, size: usize) -> bool
+    ensures { λ r. ⌜ r ≡ isSized geometry size ⌝ }
+{
+    if !geometry::is_allowed(geometry) {
+        return false;
+    }
+    size == geometry::area_length(geometry)
+}
+
+fn is_valid(geometry: Geometry, driver: Driver, size: usize) -> bool
+    ensures { λ r. ⌜ r ≡ isValid geometry driver size ⌝ }
+{
+    if !is_sized(geometry, size) {
+        return false;
+    }
+    is_driver(geometry, driver)
+}
+
+pub(crate) fn reading_refusal(ring: Ring, read: u32, write: u32) -> u8
+    ensures { λ r. ⌜ r ≡ readingRefusal ring read write ⌝ }
+{
+    if read >= ring.length {
+        return BAD_INDEX;
+    }
+    if write >= ring.length {
+        return BAD_INDEX;
+    }
+    if read == write {
+        return NOTHING_TO_READ;
+    }
+    DONE
+}
+
+// Each pointer is fetched once: what was tested is what is used.
+fn read_oldest(ring: Ring, area: &[u8]) -> Oldest
+    requires { ⌜ Holds (length (now area)) ring ⌝ }
+    ensures { λ r. ⌜ r ≡ oldestOf ring (now (area .entry)) ⌝ }
+{
+    let index = records::read_pointer(area);
+    let refusal = reading_refusal(ring, index, records::write_pointer(area));
+    if refusal != DONE {
+        return Oldest::Refused(refusal);
+    }
+    Oldest::Record {
+        index: index,
+        event: records::record_at(ring, area, index),
+    }
+}
+
+fn refusal_of(oldest: Oldest) -> u8
+    ensures { λ r. ⌜ r ≡ refusalOf oldest ⌝ }
+{
+    match oldest {
+        Oldest::Refused(number) => number,
+        Oldest::Record { index: _, event: _ } => DONE,
+    }
+}
+
+pub fn step(geometry: Geometry, driver: Driver, area: &mut [u8]) -> Stepped
+    ensures { λ r. ⌜ r ≡ stepOf geometry driver (now (area .entry)) .stepped ⌝ }
+    ensures { λ r. ⌜ now (area .exit) ≡ stepOf geometry driver (now (area .entry)) .area ⌝ }
+    ensures { λ r. ⌜ answerOf (r .told) ≡ stepAnswer geometry driver (now (area .entry)) ⌝ }
+{
+    if !is_valid(geometry, driver, area.len()) {
+        return Stepped {
+            told: Told::Refused(INVALID),
+            driver: driver,
+        };
+    }
+    let ring = geometry::ring_of(geometry);
+    let oldest = read_oldest(ring, &area[..]);
+    let Oldest::Record { index, event } = oldest else {
+        let refusal = refusal_of(oldest);
+        return Stepped {
+            told: Told::Refused(refusal),
+            driver: driver,
+        };
+    };
+    let next = records::next_index(ring, index);
+    records::set_read_pointer(area, next);
+    receive(geometry, driver, event)
+}
