@@ -5,18 +5,9 @@ use lib.Dec.{ltb, eqb}
 use Rattle.geometry.specs.declared.Geometry.{Geometry}
 use Rattle.geometry.specs.Geometry.{slotCount}
 use Rattle.records.specs.declared.Event.{Event}
+use Rattle.records.specs.Codes.{EV-SYN, EV-DEV, SYN-REPORT, SYN-DROPPED, DEV-SET, DEV-CONF, DEV-RESET, unknownSlot, allSlots}
 use Rattle.assembly.specs.declared.Kind.{Kind}
 use Rattle.assembly.specs.declared.Kind.the-variants.{SynReport, SynDropped, DevSet, DevConf, DevReset, DevResetAll, BadDevSet, BadDev, Other}
-
--- The slots that have no entry: none, and unknown source.
-abbrev pub noSlot : ℕ
-noSlot = 0xFFFFFFFE
-
-abbrev pub unknownSlot : ℕ
-unknownSlot = 0xFFFFFFFF
-
-abbrev pub allSlots : ℕ
-allSlots = 0xFFFF
 
 -- A slot of this geometry.
 abbrev pub isSlot : Geometry → ℕ → Bool
@@ -24,7 +15,7 @@ isSlot geometry slot = ltb slot (slotCount geometry)
 
 -- SYN: a report, dropped records, or an event as any other.
 abbrev pub synKind : ℕ → Kind
-synKind code = cond (eqb code 0) SynReport (cond (eqb code 3) SynDropped Other)
+synKind code = cond (eqb code SYN-REPORT) SynReport (cond (eqb code SYN-DROPPED) SynDropped Other)
 
 -- DEV_SET takes a slot in range, and alone 0xFFFFFFFF, unknown source.
 abbrev pub devSetKind : Geometry → ℕ → Kind
@@ -40,11 +31,11 @@ devResetKind geometry value = cond (isSlot geometry value) DevReset (cond (eqb v
 -- Another DEV code is malformed.
 unfoldable pub devKind : Geometry → ℕ → ℕ → Kind
 devKind geometry code value =
-    cond (eqb code 1) (devSetKind geometry value)
-    (cond (eqb code 2) (devConfKind geometry value)
-    (cond (eqb code 3) (devResetKind geometry value) BadDev))
+    cond (eqb code DEV-SET) (devSetKind geometry value)
+    (cond (eqb code DEV-CONF) (devConfKind geometry value)
+    (cond (eqb code DEV-RESET) (devResetKind geometry value) BadDev))
 
 unfoldable pub kindOf : Geometry → Event → Kind
 kindOf geometry event =
-    cond (eqb (event .kind) 0) (synKind (event .code))
-    (cond (eqb (event .kind) 6) (devKind geometry (event .code) (event .value)) Other)
+    cond (eqb (event .kind) EV-SYN) (synKind (event .code))
+    (cond (eqb (event .kind) EV-DEV) (devKind geometry (event .code) (event .value)) Other)

@@ -7,13 +7,14 @@ use lib.ListN.{set, replicate}
 use Rattle.answers.specs.Answers.{done, malformed}
 use Rattle.geometry.specs.declared.Geometry.{Geometry}
 use Rattle.records.specs.declared.Event.{Event}
+use Rattle.records.specs.Codes.{noSlot}
 use Rattle.assembly.specs.declared.Driver.{Driver}
 use Rattle.assembly.specs.declared.Stepped.{Stepped}
 use Rattle.assembly.specs.declared.Told.{Told}
 use Rattle.assembly.specs.declared.Told.the-variants as told
 use Rattle.assembly.specs.declared.Kind.{Kind}
 use Rattle.assembly.specs.declared.Kind.the-variants as kind
-use Rattle.assembly.specs.Kind.{noSlot, kindOf}
+use Rattle.assembly.specs.Kind.{kindOf}
 
 -- A fresh driver has slot none, nothing begun and ignores nothing.
 abbrev pub freshDriver : Driver

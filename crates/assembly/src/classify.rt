@@ -1,9 +1,9 @@
 // What a record is to the driver.
-use crate::ALL_SLOTS;
 use crate::Kind;
-use crate::UNKNOWN_SLOT;
 use geometry::Geometry;
 use records::Event;
+use records::codes::ALL_SLOTS;
+use records::codes::UNKNOWN_SLOT;
 ghost use mathlib.Core.Path.{_≡_};
 ghost use mathlib.Core.Bool.{true};
 ghost use Rattle.geometry.specs.Geometry.{allowed};

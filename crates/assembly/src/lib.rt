@@ -3,16 +3,10 @@ mod classify;
 mod transition;
 
 use records::Event;
+use records::codes::NO_SLOT;
 pub use transition::receive;
 ghost use mathlib.Core.Path.{_≡_};
 ghost use Rattle.assembly.specs.Transition.{freshDriver};
-
-// The slots that have no entry, and the value of a reset of all.
-pub const NO_SLOT: u32 = 0xFFFF_FFFE;
-
-pub const UNKNOWN_SLOT: u32 = 0xFFFF_FFFF;
-
-pub const ALL_SLOTS: u32 = 0xFFFF;
 
 // A packet is collected in the first `held` of `events`.
 #[repr(C)]

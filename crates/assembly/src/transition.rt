@@ -1,13 +1,13 @@
 // What each kind of record does to the driver.
 use crate::Driver;
 use crate::Kind;
-use crate::NO_SLOT;
 use crate::Stepped;
 use crate::Told;
 use crate::classify::kind_of;
 use answers::MALFORMED;
 use geometry::Geometry;
 use records::Event;
+use records::codes::NO_SLOT;
 ghost use mathlib.Core.Path.{_≡_};
 ghost use mathlib.Core.Bool.{true, false};
 ghost use Rattle.geometry.specs.Geometry.{allowed};

@@ -13,7 +13,8 @@ use Rattle.assembly.specs.declared.Stepped.{Stepped}
 use Rattle.assembly.specs.declared.Told.the-variants as told
 use Rattle.driver.specs.declared.Oldest.{Oldest}
 use Rattle.driver.specs.declared.Oldest.the-variants as oldest
-use Rattle.assembly.specs.Kind.{noSlot, unknownSlot, isSlot}
+use Rattle.records.specs.Codes.{noSlot, unknownSlot}
+use Rattle.assembly.specs.Kind.{isSlot}
 use Rattle.assembly.specs.Transition.{tells, receive}
 use Rattle.driver.specs.Reader.{isSized, oldestOf}
 

@@ -1,9 +1,9 @@
 -- Device entries (01, "Writing records"): the fields in the 68 bytes that are known of an entry, and its place in the entry page.
-use Prim.Native.Nat.{ℕ, _+_, _*_, _/_, _%_, _^_}
+use Prim.Native.Nat.{ℕ, _+_, _*_}
 use mathlib.Core.Bool.{Bool}
 use mathlib.Core.List.{List}
-use lib.Dec.{eqb}
 use lib.ListN.{take, drop, replicate}
+use Rattle.bits.specs.Bits.{bit}
 use Rattle.words.specs.Words.{u32At, overwrite}
 use Rattle.geometry.specs.declared.Geometry.{Geometry}
 use Rattle.geometry.specs.Geometry.{entryPlace}
@@ -28,9 +28,6 @@ relbits entry = u32At entry 52
 
 abbrev pub btnbits : List ℕ → ℕ → ℕ
 btnbits entry word = u32At entry (56 + 4 * word)
-
-abbrev pub bit : ℕ → ℕ → Bool
-bit word index = eqb (word / 2 ^ index % 2) 1
 
 -- An entry is there when evbits bit 0 is set.
 abbrev pub isPresent : List ℕ → Bool

@@ -1,8 +1,11 @@
-// Device entries in the entry page: written, zeroed and looked up.
+// Device entries in the entry page: written, zeroed, looked up, and what events they offer.
+mod offer;
+
 use answers::BAD_SLOT;
 use answers::DONE;
 use answers::INVALID;
 use geometry::Geometry;
+pub use offer::is_offered;
 ghost use mathlib.Core.Path.{_≡_};
 ghost use mathlib.Core.Bool.{true};
 ghost use Prim.Native.Nat.{_+_, _≤_, _<_};
@@ -14,7 +17,7 @@ ghost use Rattle.entries.specs.Lookup.{lookupAnswer, lookupPart};
 // The bytes of an entry that a driver knows, and where its mask of event types stands.
 pub const KNOWN_LENGTH: usize = 68;
 
-const EVBITS: usize = 40;
+pub(crate) const EVBITS: usize = 40;
 
 // Stores an entry in its slot's own stretch of the page.
 pub fn write_entry(geometry: Geometry, page: &mut [u8], slot: u32, entry: &[u8])
@@ -41,7 +44,7 @@ pub fn is_present(entry: &[u8]) -> bool
     requires { ⌜ 44 ≤ length (now entry) ⌝ }
     ensures { λ r. ⌜ r ≡ isPresent (now (entry .entry)) ⌝ }
 {
-    words::read_u32(entry, EVBITS) % 2 == 1
+    bits::is_set(words::read_u32(entry, EVBITS) as u64, 0)
 }
 
 fn lookup_refusal(geometry: Geometry, page: &[u8], slot: u32) -> u8

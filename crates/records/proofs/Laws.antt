@@ -2,5 +2,6 @@ pub mod Index
 pub mod Event
 pub mod Place
 pub mod Put
+pub mod PutAll
 pub mod Unread
 pub mod Unknown

@@ -1,6 +1,6 @@
 -- Event records (01, "Writing records"): the first 8 bytes are type (16 bits), code (16) and value (32).
 use Prim.Native.Nat.{ℕ, _+_, _^_, _<_}
-use mathlib.Core.List.{List, _++_}
+use mathlib.Core.List.{List, [], _∷_, _++_}
 use Rattle.words.specs.Words.{u16At, u32At, u16Bytes, u32Bytes}
 use Rattle.records.specs.declared.Event.{Event}
 
@@ -9,6 +9,10 @@ pub record EventFits (event : Event) : Type 0 where
   pub kind-fits : event .kind < 2 ^ 16
   pub code-fits : event .code < 2 ^ 16
   pub value-fits : event .value < 2 ^ 32
+
+abbrev pub AllFit : List Event → Type 0
+AllFit [] = Unit {0}
+AllFit (event ∷ rest) = EventFits event × AllFit rest
 
 unfoldable pub eventBytes : Event → List ℕ
 eventBytes event = u16Bytes (event .kind) ++ (u16Bytes (event .code) ++ u32Bytes (event .value))

@@ -1,4 +1,6 @@
 // Event records in the event area: one put, one read, the two pointers, unread records and room.
+pub mod codes;
+
 use geometry::Ring;
 ghost use mathlib.Core.Path.{_≡_};
 ghost use Prim.Native.Nat.{_+_, _≤_, _<_};

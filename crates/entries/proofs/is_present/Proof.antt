@@ -1,4 +1,3 @@
-use native.Mathlib.Nat.{div-one}
 use borrow.Author.Needs.{needs}
 use Rattle.entries.proofs.is_present.Statement.{statement}
 use Rattle.entries.proofs.is_present.Tie as tie
@@ -6,8 +5,14 @@ use Rattle.entries.proofs.is_present.Tie as tie
 read-u32-requires : tie.Need-read-u32-requires
 read-u32-requires c κs = search needs
 
+cast-is-set : tie.Need-cast-is-set
+cast-is-set c = search needs
+
+is-set-requires : tie.Need-is-set-requires
+is-set-requires c κs = search needs
+
 returns : tie.Need-returns
-returns c = rw (c .read-u32 .ensures, div-one)
+returns c = rw (c .is-set .ensures, c .before .read-u32 .ensures)
 
 pub is-present-spec : {M : Type 1} → statement M
-is-present-spec = tie.close (tie.spec read-u32-requires returns)
+is-present-spec = tie.close (tie.spec read-u32-requires cast-is-set is-set-requires returns)

@@ -1,0 +1,14 @@
+-- Numbers as masks of bits, the lowest one bit 0.
+use Prim.Native.Nat.{ℕ, _+_, _-_, _/_, _%_, _^_}
+use mathlib.Core.Bool.{Bool}
+use lib.Dec.{eqb}
+
+unfoldable pub bit : ℕ → ℕ → Bool
+bit mask index = eqb (mask / 2 ^ index % 2) 1
+
+-- The mask with a bit set that was clear, and with one cleared that was set.
+abbrev pub withBit : ℕ → ℕ → ℕ
+withBit mask index = mask + 2 ^ index
+
+abbrev pub withoutBit : ℕ → ℕ → ℕ
+withoutBit mask index = mask - 2 ^ index

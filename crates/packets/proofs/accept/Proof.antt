@@ -1,0 +1,12 @@
+use borrow.Author.Needs.{needs}
+use Rattle.packets.proofs.accept.Statement.{statement}
+use Rattle.packets.proofs.accept.Tie as tie
+
+raises-requires : tie.Need-raises-requires
+raises-requires c κs = search needs
+
+returns : tie.Need-returns
+returns c = rw (c .raises .ensures)
+
+pub accept-spec : {M : Type 1} → statement M
+accept-spec = tie.close (tie.spec raises-requires returns)

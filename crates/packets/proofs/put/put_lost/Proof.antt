@@ -1,0 +1,44 @@
+use borrow.Author.Tests.{not-true, not-false}
+use Rattle.records.proofs.Laws.PutAll.{put-none, put-one, put-next, put-ready}
+use borrow.Author.Needs.{needs}
+use Rattle.packets.proofs.put.put_lost.Statement.{statement}
+use Rattle.packets.proofs.put.put_lost.Tie as tie
+
+returns : tie.Need-returns
+returns c = rw (not-true (c .before .before .args .lost) (c .if1 .taken)) (put-none _ _ _)
+
+syn-record-requires : tie.Need-syn-record-requires
+syn-record-requires c κs = search needs
+
+put-record-requires : tie.Need-put-record-requires
+put-record-requires c κs = search needs
+
+syn-record-requires-2 : tie.Need-syn-record-requires-2
+syn-record-requires-2 c κs = search needs
+
+put-record-requires-2 : tie.Need-put-record-requires-2
+put-record-requires-2 c κs = let s = c .before .before .before .before .before .before .before .before .before in
+    let put = c .before .before .before .before .put-record in
+    put-ready (s .args .ring) (s .pre .0) (s .pre .1) (put-one (s .args .ring) _ _ (put .ensures .0) (put .ensures .1))
+
+same-length : tie.Need-same-length
+same-length c = search needs
+
+returns-2 : tie.Need-returns-2
+returns-2 c = let s = c .before .before .before .before .before .before .before .before .before .before .before .before in
+    let one = c .before .before .before .before .before .before .before .put-record .ensures in
+    let two = c .before .before .put-record2 .ensures in
+    rw (not-false (s .args .lost) (c .before .before .before .before .before .before .before .before .before .before .if1 .left), ← c .before .before .before .before .before .before .before .before .syn-record .ensures, ← c .before .before .before .syn-record2 .ensures)
+    (put-next (s .args .ring) (put-one (s .args .ring) _ _ (one .0) (one .1)) (put-one (s .args .ring) _ _ (two .0) (two .1)))
+
+pub put-lost-spec : {M : Type 1} → statement M
+put-lost-spec =
+    tie.close
+    (tie.spec
+    returns
+    syn-record-requires
+    put-record-requires
+    syn-record-requires-2
+    put-record-requires-2
+    same-length
+    returns-2)
