@@ -1,0 +1,4 @@
+pub mod Decimal
+pub mod Step
+pub mod Reading
+pub mod Exact

@@ -1,0 +1,177 @@
+// The Xen keyboard ring: put for the back end, take for the front end.
+use answers::BAD_INDEX;
+use answers::DONE;
+use answers::INVALID;
+use answers::MALFORMED;
+use answers::NO_ROOM;
+use answers::NOTHING_TO_READ;
+use kbdif_decode::Decoded;
+use kbdif_events::EVENT_LENGTH;
+ghost use mathlib.Core.Path.{_≡_};
+ghost use Prim.Native.Nat.{_+_, _≤_};
+ghost use lib.ListN.{length};
+ghost use Rattle.answers.specs.Refusals.{firstRefusal};
+ghost use Rattle.kbdif_events.specs.Event.{eventLength};
+ghost use Rattle.kbdif_decode.specs.Decode.{decoded, numberOf};
+ghost use Rattle.kbdif.specs.Page.{pageLength, nextIndex, distance, eventPlace, isContactLimit};
+ghost use Rattle.kbdif.specs.Put.{mayBePut, putRefusals, putOf};
+ghost use Rattle.kbdif.specs.Take.{takeNumber, foundBy, consumed, takeOf};
+
+pub const PAGE_LENGTH: usize = 4096;
+
+// Bytes of the page: the two indices, and the first event.
+const IN_CONS: usize = 0;
+
+const IN_PROD: usize = 4;
+
+const EVENTS: usize = 1024;
+
+// How many events the ring holds.
+const RING_LENGTH: u32 = 51;
+
+// A put's answer, and the private in_prod after it.
+pub struct Stored {
+    pub answer: u8,
+    pub in_prod: u32,
+}
+
+// What a take found, and the private in_cons after it.
+pub struct Taken {
+    pub found: Decoded,
+    pub in_cons: u32,
+}
+
+fn next_index(index: u32) -> u32
+    ensures { λ r. ⌜ r ≡ nextIndex index ⌝ }
+{
+    std::num::wrapping_add_u32(index, 1)
+}
+
+fn distance(in_prod: u32, in_cons: u32) -> u32
+    ensures { λ r. ⌜ r ≡ distance «in_prod» «in_cons» ⌝ }
+{
+    std::num::wrapping_sub_u32(in_prod, in_cons)
+}
+
+fn event_place(index: u32) -> usize
+    ensures { λ r. ⌜ (r ≡ eventPlace index) × (r + eventLength ≤ pageLength) ⌝ }
+{
+    EVENTS + (index % RING_LENGTH) as usize * EVENT_LENGTH
+}
+
+fn is_contact_limit(limit: u32) -> bool
+    ensures { λ r. ⌜ r ≡ isContactLimit limit ⌝ }
+{
+    if limit < 1 {
+        return false;
+    }
+    limit <= 32
+}
+
+fn may_be_put(event: &[u8], contact_limit: u32) -> bool
+    requires { ⌜ length (now event) ≡ eventLength ⌝ }
+    ensures { λ r. ⌜ r ≡ mayBePut (decoded (now (event .entry)) «contact_limit») ⌝ }
+{
+    match kbdif_decode::decode(event, contact_limit) {
+        Decoded::Event(value) => kbdif_events::is_known(value),
+        Decoded::Refused(_) => false,
+    }
+}
+
+fn put_refusal(page: &[u8], in_prod: u32, contact_limit: u32, event: &[u8]) -> u8
+    ensures { λ r. ⌜ r ≡ firstRefusal (putRefusals (now (page .entry)) «in_prod» «contact_limit» (now (event .entry))) ⌝ }
+{
+    if page.len() != PAGE_LENGTH {
+        return INVALID;
+    }
+    if event.len() != EVENT_LENGTH {
+        return INVALID;
+    }
+    if !is_contact_limit(contact_limit) {
+        return INVALID;
+    }
+    if !may_be_put(event, contact_limit) {
+        return MALFORMED;
+    }
+    // The front end may move its index at any time, so a call reads it once.
+    let used = distance(in_prod, words::read_u32(page, IN_CONS));
+    if used > RING_LENGTH {
+        return BAD_INDEX;
+    }
+    if used == RING_LENGTH {
+        return NO_ROOM;
+    }
+    DONE
+}
+
+// Fills an event's place.
+fn store(place: &mut [u8], event: &[u8])
+    requires { ⌜ (length (now place) ≡ eventLength) × (length (now event) ≡ eventLength) ⌝ }
+    ensures { λ _. ⌜ now (place .exit) ≡ now (event .entry) ⌝ }
+{
+    bytes::copy(event, place);
+}
+
+// The back end's call. Its own index is the private one, never that of the page.
+pub fn put(page: &mut [u8], in_prod: u32, contact_limit: u32, event: &[u8]) -> Stored
+    ensures { λ r. ⌜ (r ≡ putOf (now (page .entry)) «in_prod» «contact_limit» (now (event .entry)) .result) × (now (page .exit) ≡ putOf (now (page .entry)) «in_prod» «contact_limit» (now (event .entry)) .page) ⌝ }
+{
+    let answer = put_refusal(&page[..], in_prod, contact_limit, event);
+    if answer != DONE {
+        return Stored { answer, in_prod };
+    }
+    let at = event_place(in_prod);
+    store(&mut page[at..at + EVENT_LENGTH], event);
+    let next = next_index(in_prod);
+    words::write_u32(page, IN_PROD, next);
+    Stored {
+        answer: DONE,
+        in_prod: next,
+    }
+}
+
+fn find(page: &[u8], in_cons: u32, contact_limit: u32) -> Decoded
+    ensures { λ r. ⌜ r ≡ foundBy (now (page .entry)) «in_cons» «contact_limit» ⌝ }
+{
+    if page.len() != PAGE_LENGTH {
+        return Decoded::Refused(INVALID);
+    }
+    if !is_contact_limit(contact_limit) {
+        return Decoded::Refused(INVALID);
+    }
+    // The back end may move its index at any time, so a call reads it once.
+    let unread = distance(words::read_u32(page, IN_PROD), in_cons);
+    if unread > RING_LENGTH {
+        return Decoded::Refused(BAD_INDEX);
+    }
+    if unread == 0 {
+        return Decoded::Refused(NOTHING_TO_READ);
+    }
+    let at = event_place(in_cons);
+    kbdif_decode::decode(&page[at..at + EVENT_LENGTH], contact_limit)
+}
+
+fn is_consumed(found: Decoded) -> bool
+    ensures { λ r. ⌜ r ≡ consumed found ⌝ }
+{
+    match found {
+        Decoded::Event(_) => true,
+        Decoded::Refused(number) => number == MALFORMED,
+    }
+}
+
+// The front end's call. Its own index is the private one, never that of the page.
+pub fn take(page: &mut [u8], in_cons: u32, contact_limit: u32) -> Taken
+    ensures { λ r. ⌜ (numberOf (r .found) ≡ takeNumber (now (page .entry)) «in_cons» «contact_limit») × (r ≡ takeOf (now (page .entry)) «in_cons» «contact_limit» .result) × (now (page .exit) ≡ takeOf (now (page .entry)) «in_cons» «contact_limit» .page) ⌝ }
+{
+    let found = find(&page[..], in_cons, contact_limit);
+    if !is_consumed(found) {
+        return Taken { found, in_cons };
+    }
+    let next = next_index(in_cons);
+    words::write_u32(page, IN_CONS, next);
+    Taken {
+        found,
+        in_cons: next,
+    }
+}

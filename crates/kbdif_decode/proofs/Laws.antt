@@ -1,0 +1,6 @@
+pub mod Answer
+pub mod Layout
+pub mod Reserved
+pub mod Pieces
+pub mod Encoded
+pub mod Decoded

@@ -1,0 +1,104 @@
+-- The event that 40 bytes hold, and when they are badly formed (01, "kbdif ring and nodes").
+use Prim.Native.Nat.{ℕ, _+_, _-_, _<_}
+use mathlib.Core.Bool.{Bool, true, not, _&&_, cond}
+use mathlib.Core.List.{List, [], _∷_}
+use lib.Dec.{leb, ltb, eqb}
+use lib.IntN.{ℤ}
+use lib.ListN.{length, getD, take, drop}
+use mir.Syntax.{w16, w32}
+use Rattle.answers.specs.Answers.{done, malformed}
+use Rattle.answers.specs.Refusals.{firstRefusal}
+use Rattle.words.specs.Words.{u16At, u32At}
+use Rattle.signed.specs.Signed.{fromBits}
+use Rattle.kbdif_decode.specs.declared.Decoded.{Decoded}
+use Rattle.kbdif_decode.specs.declared.Decoded.the-variants.{Event, Refused}
+use Rattle.kbdif_decode.specs.declared.Extent.{Extent}
+use Rattle.kbdif_events.specs.declared.RingEvent.{RingEvent}
+use Rattle.kbdif_events.specs.declared.RingEvent.the-variants.{Motion, Key, Pos, TouchDown, TouchUp, TouchMotion, TouchSyn, TouchShape, TouchOrient, Unknown}
+use Rattle.kbdif_events.specs.Event.{eventLength, layoutOf, contactOf}
+
+-- Every entry is a byte: any list that code can hold.
+abbrev pub Bytes : List ℕ → Type 0
+Bytes bytes = (i : ℕ) → getD bytes i 0 < 256
+
+-- The signed number that begins at a byte.
+abbrev pub i32At : List ℕ → ℕ → ℤ
+i32At bytes at = fromBits w32 (u32At bytes at)
+
+abbrev pub i16At : List ℕ → ℕ → ℤ
+i16At bytes at = fromBits w16 (u16At bytes at)
+
+-- What a table has for a number, or else the last thing given.
+unfoldable pub lookup : ℕ → List (ℕ × RingEvent) → RingEvent → RingEvent
+lookup number [] other = other
+lookup number ((key, event) ∷ rest) other = cond (eqb number key) event (lookup number rest other)
+
+-- A touch, by its subtype.
+unfoldable pub touchAt : List ℕ → RingEvent
+touchAt bytes =
+    lookup (getD bytes 1 0)
+    ((0, TouchDown (getD bytes 2 0) (i32At bytes 8) (i32At bytes 12))
+    ∷ (1, TouchUp (getD bytes 2 0))
+    ∷ (2, TouchMotion (getD bytes 2 0) (i32At bytes 8) (i32At bytes 12))
+    ∷ (3, TouchSyn (getD bytes 2 0))
+    ∷ (4, TouchShape (getD bytes 2 0) (u32At bytes 8) (u32At bytes 12))
+    ∷ (5, TouchOrient (getD bytes 2 0) (i16At bytes 8))
+    ∷ [])
+    Unknown
+
+-- An event, by its type. Another type or subtype, whatever its other bytes, is unknown.
+unfoldable pub eventAt : List ℕ → RingEvent
+eventAt bytes =
+    lookup (getD bytes 0 0)
+    ((1, Motion (i32At bytes 4) (i32At bytes 8) (i32At bytes 12))
+    ∷ (3, Key (eqb (getD bytes 1 0) 1) (u32At bytes 4))
+    ∷ (4, Pos (i32At bytes 4) (i32At bytes 8) (i32At bytes 12))
+    ∷ (5, touchAt bytes)
+    ∷ [])
+    Unknown
+
+-- Where an event's head ends, and where its fields start and end. All other bytes are reserved.
+abbrev pub extent : ℕ → ℕ → ℕ → Extent
+extent head start end = record { head = head; start = start; end = end }
+
+unfoldable pub extentOf : RingEvent → Extent
+extentOf event =
+    extent (length (layoutOf event .head)) (layoutOf event .start) (layoutOf event .start + length (layoutOf event .fields))
+
+unfoldable pub allZero : List ℕ → Bool
+allZero [] = true
+allZero (byte ∷ rest) = eqb byte 0 && allZero rest
+
+-- The bytes from one place up to another.
+abbrev pub between : List ℕ → ℕ → ℕ → List ℕ
+between bytes from until = take (until - from) (drop from bytes)
+
+-- The reserved bytes: between the head and the fields, and after the fields.
+unfoldable pub reservedIsZero : List ℕ → RingEvent → Bool
+reservedIsZero bytes event =
+    allZero (between bytes (extentOf event .head) (extentOf event .start)) && allZero (between bytes (extentOf event .end) eventLength)
+
+-- Pressed above 1.
+abbrev pub pressedAboveOne : List ℕ → Bool
+pressedAboveOne bytes = eqb (getD bytes 0 0) 3 && ltb 1 (getD bytes 1 0)
+
+-- A nonzero reserved byte, pressed above 1, or a contact at or above the limit is 9.
+abbrev pub eventRefusals : List ℕ → ℕ → List (Bool × ℕ)
+eventRefusals bytes contactLimit =
+    (not (reservedIsZero bytes (eventAt bytes)), malformed)
+    ∷ (pressedAboveOne bytes, malformed)
+    ∷ (leb contactLimit (contactOf (eventAt bytes)), malformed)
+    ∷ []
+
+-- An answer that holds an event is 0, a refusal its own number.
+abbrev pub numberOf : Decoded → ℕ
+numberOf (Event event) = done
+numberOf (Refused number) = number
+
+-- The answer of a call by its number: the event where nothing is refused.
+abbrev pub answered : ℕ → RingEvent → Decoded
+answered number event = cond (eqb number done) (Event event) (Refused number)
+
+-- What decode answers: the event, unknown or not, or 9.
+abbrev pub decoded : List ℕ → ℕ → Decoded
+decoded bytes contactLimit = answered (firstRefusal (eventRefusals bytes contactLimit)) (eventAt bytes)

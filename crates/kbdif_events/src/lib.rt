@@ -1,0 +1,118 @@
+// The events of the Xen keyboard ring, and the 40 bytes that stand for them.
+use signed::i16_to_bits;
+use signed::i32_to_bits as bits;
+ghost use mathlib.Core.Path.{_≡_};
+ghost use mathlib.Core.List.{[], _∷_, _++_};
+ghost use lib.ListN.{length};
+ghost use Rattle.words.specs.Words.{u32Bytes};
+ghost use Rattle.kbdif_events.specs.Event.{eventLength, known, padded, eventBytes};
+
+pub const EVENT_LENGTH: usize = 40;
+
+// Types of an event.
+pub const MOTION: u8 = 1;
+
+pub const KEY: u8 = 3;
+
+pub const POS: u8 = 4;
+
+pub const MTOUCH: u8 = 5;
+
+// Subtypes of a touch.
+pub const DOWN: u8 = 0;
+
+pub const UP: u8 = 1;
+
+pub const MOVE: u8 = 2;
+
+pub const SYN: u8 = 3;
+
+pub const SHAPE: u8 = 4;
+
+pub const ORIENT: u8 = 5;
+
+pub enum RingEvent {
+    Motion { x: i32, y: i32, z: i32 },
+    Key { pressed: bool, keycode: u32 },
+    Pos { x: i32, y: i32, wheel: i32 },
+    TouchDown { contact: u8, x: i32, y: i32 },
+    TouchUp { contact: u8 },
+    TouchMotion { contact: u8, x: i32, y: i32 },
+    TouchSyn { contact: u8 },
+    TouchShape { contact: u8, major: u32, minor: u32 },
+    TouchOrient { contact: u8, orientation: i16 },
+    Unknown,
+}
+
+pub fn is_known(event: RingEvent) -> bool
+    ensures { λ r. ⌜ r ≡ known event ⌝ }
+{
+    match event {
+        RingEvent::Motion { .. } => true,
+        RingEvent::Key { .. } => true,
+        RingEvent::Pos { .. } => true,
+        RingEvent::TouchDown { .. } => true,
+        RingEvent::TouchUp { .. } => true,
+        RingEvent::TouchMotion { .. } => true,
+        RingEvent::TouchSyn { .. } => true,
+        RingEvent::TouchShape { .. } => true,
+        RingEvent::TouchOrient { .. } => true,
+        RingEvent::Unknown => false,
+    }
+}
+
+// Fills 40 bytes: the first three, and zeros.
+fn set_head(out: &mut [u8], kind: u8, detail: u8, contact: u8)
+    requires { ⌜ length (now out) ≡ eventLength ⌝ }
+    ensures { λ _. ⌜ now (out .exit) ≡ padded (kind ∷ detail ∷ contact ∷ []) 4 [] ⌝ }
+{
+    let zeros = [0; EVENT_LENGTH];
+    bytes::copy(&zeros, out);
+    out[0] = kind;
+    out[1] = detail;
+    out[2] = contact;
+}
+
+// Fills 40 bytes: the first three, the words at 4, 8 and 12, and zeros.
+fn set_all(out: &mut [u8], kind: u8, detail: u8, contact: u8, first: u32, second: u32, third: u32)
+    requires { ⌜ length (now out) ≡ eventLength ⌝ }
+    ensures { λ _. ⌜ now (out .exit) ≡ padded (kind ∷ detail ∷ contact ∷ []) 4 (u32Bytes first ++ (u32Bytes second ++ u32Bytes third)) ⌝ }
+{
+    set_head(out, kind, detail, contact);
+    words::write_u32(out, 4, first);
+    words::write_u32(out, 8, second);
+    words::write_u32(out, 12, third);
+}
+
+fn set_touch(out: &mut [u8], subtype: u8, contact: u8, first: u32, second: u32)
+    requires { ⌜ length (now out) ≡ eventLength ⌝ }
+    ensures { λ _. ⌜ now (out .exit) ≡ padded (5 ∷ subtype ∷ contact ∷ []) 8 (u32Bytes first ++ u32Bytes second) ⌝ }
+{
+    set_all(out, MTOUCH, subtype, contact, 0, first, second);
+}
+
+// Fills 40 bytes with an event. What is unknown becomes zeros, since no event has type 0.
+pub fn encode(out: &mut [u8], event: RingEvent)
+    requires { ⌜ length (now out) ≡ eventLength ⌝ }
+    ensures { λ _. ⌜ now (out .exit) ≡ eventBytes event ⌝ }
+{
+    match event {
+        RingEvent::Motion { x, y, z } => set_all(out, MOTION, 0, 0, bits(x), bits(y), bits(z)),
+        RingEvent::Key { pressed, keycode } => set_all(out, KEY, pressed as u8, 0, keycode, 0, 0),
+        RingEvent::Pos { x, y, wheel } => set_all(out, POS, 0, 0, bits(x), bits(y), bits(wheel)),
+        RingEvent::TouchDown { contact, x, y } => set_touch(out, DOWN, contact, bits(x), bits(y)),
+        RingEvent::TouchUp { contact } => set_touch(out, UP, contact, 0, 0),
+        RingEvent::TouchMotion { contact, x, y } => set_touch(out, MOVE, contact, bits(x), bits(y)),
+        RingEvent::TouchSyn { contact } => set_touch(out, SYN, contact, 0, 0),
+        RingEvent::TouchShape {
+            contact,
+            major,
+            minor,
+        } => set_touch(out, SHAPE, contact, major, minor),
+        RingEvent::TouchOrient {
+            contact,
+            orientation,
+        } => set_touch(out, ORIENT, contact, i16_to_bits(orientation) as u32, 0),
+        RingEvent::Unknown => set_all(out, 0, 0, 0, 0, 0, 0),
+    }
+}

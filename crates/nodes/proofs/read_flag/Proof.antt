@@ -1,0 +1,27 @@
+use borrow.Author.Tests.{lt-ltb, le-ltb}
+use Rattle.nodes.proofs.Laws.Flags.{flag-of-nothing, flag-of-text}
+use borrow.Author.Needs.{needs}
+use Rattle.nodes.proofs.read_flag.Statement.{statement}
+use Rattle.nodes.proofs.read_flag.Tie as tie
+
+returns : tie.Need-returns
+returns c = flag-of-nothing (c .before .args .text .now) (c .if1 .taken)
+
+shared-slice-read-byte : tie.Need-shared-slice-read-byte
+shared-slice-read-byte c = search needs
+
+returns-2 : tie.Need-returns-2
+returns-2 c = rw (flag-of-text (c .before .before .before .args .text .now) (c .before .before .if1 .left), lt-ltb _ _ (c .if2 .taken))
+
+returns-3 : tie.Need-returns-3
+returns-3 c = rw (flag-of-text (c .before .before .before .before .args .text .now) (c .before .before .before .if1 .left), le-ltb _ _ (c .before .if2 .left), lt-ltb _ _ (c .if3 .taken))
+
+returns-4 : tie.Need-returns-4
+returns-4 c = rw (flag-of-text (c .before .before .before .before .before .args .text .now) (c .before .before .before .before .if1 .left), le-ltb _ _ (c .before .before .if2 .left), le-ltb _ _ (c .before .if3 .left), lt-ltb _ _ (c .if4 .taken))
+
+returns-5 : tie.Need-returns-5
+returns-5 c = rw (flag-of-text (c .before .before .before .before .before .args .text .now) (c .before .before .before .before .if1 .left), le-ltb _ _ (c .before .before .if2 .left), le-ltb _ _ (c .before .if3 .left), le-ltb _ _ (c .if4 .left))
+
+pub read-flag-spec : {M : Type 1} → statement M
+read-flag-spec =
+    tie.close (tie.spec returns shared-slice-read-byte returns-2 returns-3 returns-4 returns-5)

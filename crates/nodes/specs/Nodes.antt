@@ -1,0 +1,55 @@
+-- One node, a name and a value (01, "kbdif ring and nodes"): names not meant here are ignored with any value, a name given again replaces.
+-- Flags are "0" or "1", numbers are decimals. Another value is 12 and changes nothing.
+use Prim.Native.Nat.{ℕ}
+use mathlib.Core.Bool.{Bool, cond, _||_}
+use mathlib.Core.List.{List, [], _∷_}
+use lib.Dec.{ltb, eqb}
+use Rattle.answers.specs.Answers.{done, badSetting}
+use Rattle.decimals.specs.declared.Number.{Number}
+use Rattle.decimals.specs.Numbers.{readNumber}
+use Rattle.node_names.specs.declared.FlagName.{FlagName}
+use Rattle.node_names.specs.declared.NumberName.{NumberName}
+use Rattle.node_names.specs.declared.Node.{Node}
+use Rattle.node_names.specs.Names.{nodeOf}
+use Rattle.nodes.specs.declared.Flag.{Flag}
+use Rattle.nodes.specs.declared.Settings.{Settings}
+use Rattle.nodes.specs.declared.NodeAnswer.{NodeAnswer}
+use Rattle.nodes.specs.Settings.{withFlag, withNumber}
+
+-- A byte below "0" or above "1".
+abbrev pub noFlag : ℕ → Bool
+noFlag byte = ltb byte 48 || ltb 49 byte
+
+-- A flag's text, after its first byte: nothing may follow.
+abbrev pub flagEnds : List ℕ → Bool → Flag
+flagEnds [] value = Flag.Value value
+flagEnds (byte ∷ rest) value = Flag.Bad 1
+
+-- The flag that a text says, or the place of the first byte that spoils it. An empty text is bad at its length.
+unfoldable pub readFlag : List ℕ → Flag
+readFlag [] = Flag.Bad 0
+readFlag (byte ∷ rest) = cond (noFlag byte) (Flag.Bad 0) (flagEnds rest (eqb byte 49))
+
+abbrev pub accepted : Settings → NodeAnswer
+accepted settings = record { answer = done; settings = settings }
+
+abbrev pub refused : Settings → NodeAnswer
+refused settings = record { answer = badSetting; settings = settings }
+
+-- A value that is bad changes nothing.
+unfoldable pub afterFlag : Settings → FlagName → Flag → NodeAnswer
+afterFlag settings name (Flag.Value value) = accepted (withFlag settings name value)
+afterFlag settings name (Flag.Bad place) = refused settings
+
+unfoldable pub afterNumber : Settings → NumberName → Number → NodeAnswer
+afterNumber settings name (Number.Value value) = accepted (withNumber settings name value)
+afterNumber settings name (Number.Bad place) = refused settings
+
+-- Other nodes are ignored, whatever their value.
+unfoldable pub afterNode : Settings → Node → List ℕ → NodeAnswer
+afterNode settings (Node.Flag name) value = afterFlag settings name (readFlag value)
+afterNode settings (Node.Number name) value = afterNumber settings name (readNumber value)
+afterNode settings Node.Other value = accepted settings
+
+abbrev pub readNode : Settings → List ℕ → List ℕ → NodeAnswer
+readNode settings name value = afterNode settings (nodeOf name) value
