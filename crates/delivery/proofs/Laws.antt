@@ -1,0 +1,15 @@
+pub mod Choice
+pub mod Holding
+pub mod Runs
+pub mod Invariant
+pub mod Numbers
+pub mod Driver
+pub mod Step
+pub mod Fit
+pub mod State
+pub mod Packet
+pub mod Plug
+pub mod Access
+pub mod Start
+pub mod Delivery
+pub mod Example

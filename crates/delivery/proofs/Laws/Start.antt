@@ -1,0 +1,203 @@
+-- The access that switches the device on makes the invariant hold, with nothing to wait for.
+use Prim.Native.Nat.{ℕ, zero, suc, _+_, _≤_, _<_}
+use mathlib.Core.Path.{_≡_, refl, sym, ap, _∙_}
+use mathlib.Core.Bool.{Bool, true, false, not, _&&_, false≢true}
+use mathlib.Core.List.{List, [], _++_, map}
+use native.Mathlib.Omega.{arith}
+use lib.Dec.{eqb}
+use lib.ListN.{length}
+use borrow.Author.Tests.{eqb-true}
+use Rattle.words.specs.Words.{u32Bytes}
+use Rattle.words.proofs.Laws.Overwrite.{overwrite-length, overwrite-before}
+use Rattle.words.proofs.Laws.Word.{agree-u32, u32-back}
+use Rattle.bits.specs.Bits.{bit}
+use Rattle.geometry.specs.declared.Geometry.{Geometry}
+use Rattle.geometry.specs.Geometry.{allowed, ringLength, ringOf, slotCount}
+use Rattle.geometry.proofs.Laws.Allowed.{sizes}
+use Rattle.records.specs.declared.Event.{Event}
+use Rattle.records.specs.Codes.{DEV-CONF, noSlot, devRecord}
+use Rattle.records.specs.Ring.{Holds, readPointer, writePointer, withReadPointer}
+use Rattle.records.specs.Put.{putRecords, indexAfter}
+use Rattle.records.specs.Unread.{unread}
+use Rattle.records.proofs.Laws.Index.{unread-self}
+use Rattle.records.proofs.Laws.Place.{pointers-inside}
+use Rattle.records.proofs.Laws.PutAll.{puts-read-pointer, puts-write-pointer, puts-unread}
+use Rattle.records.proofs.Laws.Unread.{none-unread}
+use Rattle.assembly.specs.declared.Driver.{Driver}
+use Rattle.driver.specs.Step.{isDriver}
+use Rattle.device.specs.declared.Device.{Device}
+use Rattle.device.specs.declared.Outcome.{Outcome}
+use Rattle.device.proofs.Laws.Call.{Call}
+use Rattle.registers.specs.declared.Place.{Place}
+use Rattle.registers.specs.declared.Place.the-variants.{Magic, Rev, Control, EventSize, Npages, Acceleration, Isr, ConfSize, ClientRev, ReadPtr, EventArea, EntryPage, Nothing}
+use Rattle.registers.specs.Place.{placeOf}
+use Rattle.registers.specs.Access.{accessAnswer}
+use Rattle.registers.specs.SwitchOn.{WriteResult, takenFrom, startRecords, clearedPointers, switchedOn}
+use Rattle.registers.specs.Write.{controlOf, clientRevOf, effectOf, writeOf}
+use Rattle.registers.proofs.Laws.Access.{granted}
+use Rattle.registers.proofs.Laws.SwitchOn.{start-fits, always-room, start-events-fit}
+use Rattle.registers.proofs.Laws.Keeps.{write-keeps, write-size}
+use Rattle.delivery.specs.World.{World, write, call}
+use Rattle.delivery.specs.Premises.{IsFresh}
+use Rattle.delivery.proofs.Laws.Choice.{either}
+use Rattle.delivery.proofs.Laws.State.{called-with, rules-device}
+use Rattle.delivery.proofs.Laws.Holding.{Holding, conf, reset-all}
+use Rattle.delivery.proofs.Laws.Runs.{Runs, none, one, then}
+use Rattle.delivery.proofs.Laws.Invariant.{Invariant}
+
+-- ---- the driver's run over the first records
+
+module _ (geometry : Geometry) where
+  conf-runs : (taken slot count : ℕ) → slot + count ≤ slotCount geometry → {driver : Driver} → Holding noSlot [] driver
+      → Runs geometry driver (map (devRecord DEV-CONF) (takenFrom taken slot count)) [] noSlot []
+  unfolding takenFrom
+  conf-runs taken slot zero low held = none geometry held
+  conf-runs taken slot (suc count) low {driver} held =
+      either (λ (slots : List ℕ). Runs geometry driver (map (devRecord DEV-CONF) slots) [] noSlot []) (bit taken slot)
+      (λ set. then geometry (one geometry (conf geometry slot (omega arith) held)) (λ middle next. conf-runs taken (suc slot) count (omega arith) next))
+      (λ free. conf-runs taken (suc slot) count (omega arith) held)
+
+  start-runs : (device : Device) {driver : Driver} → allowed geometry ≡ true → Holding noSlot [] driver → Runs geometry driver (startRecords geometry device) [] noSlot []
+  start-runs device ok held = then geometry (one geometry (reset-all geometry ok held)) (λ middle next. conf-runs (device .taken) 0 (slotCount geometry) (omega arith) next)
+
+  fresh-driver : (driver : Driver) → IsFresh driver → isDriver geometry driver ≡ true
+  unfolding isDriver
+  fresh-driver driver fresh = rw (fresh .none-held, fresh .no-slot)
+
+fresh-holding : (driver : Driver) → IsFresh driver → Holding noSlot [] driver
+fresh-holding driver fresh = record {
+  array = fresh .array;
+  at-slot = fresh .no-slot;
+  count = fresh .none-held;
+  begun = rw (fresh .none-held);
+  not-overlong = fresh .not-overlong;
+  not-spoiled = fresh .not-spoiled;
+  not-ignoring = fresh .not-ignoring;
+}
+
+-- ---- both pointers 0
+
+module _ (area : List ℕ) (room : 8 ≤ length area) where
+  half : length (withReadPointer area 0) ≡ length area
+  half = overwrite-length area 0 (u32Bytes 0) (omega arith)
+
+  cleared-length : length (clearedPointers area) ≡ length area
+  cleared-length = overwrite-length (withReadPointer area 0) 4 (u32Bytes 0) (omega (arith, half)) ∙ half
+
+  cleared-write : writePointer (clearedPointers area) ≡ 0
+  cleared-write = u32-back (withReadPointer area 0) 4 0 (omega arith) (omega (arith, half))
+
+  cleared-read : readPointer (clearedPointers area) ≡ 0
+  cleared-read =
+      agree-u32 (clearedPointers area) (withReadPointer area 0) 0 (overwrite-before (withReadPointer area 0) 4 (u32Bytes 0) 0 4 (omega (arith, half)) (omega arith))
+      ∙ u32-back area 0 0 (omega arith) (omega arith)
+
+-- ---- the access
+
+-- A write after which a device that was off is on.
+record Switched (geometry : Geometry) (device : Device) (area : List ℕ) (result : WriteResult) : Type 0 where
+  interrupts : Bool
+  device-after : result .outcome .device ≡ switchedOn interrupts (indexAfter (ringOf geometry) 0 (startRecords geometry device)) device
+  area-after : result .area ≡ putRecords (ringOf geometry) 0 (startRecords geometry device) (clearedPointers area)
+
+module _ (geometry : Geometry) (device : Device) (area : List ℕ) (ok : allowed geometry ≡ true) (off : device .on ≡ false) where
+  OnlyOn : WriteResult → Type 0
+  OnlyOn result = result .outcome .device .on ≡ true → Switched geometry device area result
+
+  stays-off : (result : WriteResult) → result .outcome .device .on ≡ false → OnlyOn result
+  unfolding OnlyOn
+  stays-off result still on = absurd (false≢true (sym still ∙ on))
+
+  not-asked : (wanted two : Bool) → (wanted && (two && not (device .on))) ≡ false → (wanted && two) ≡ false
+  not-asked true true h = absurd (false≢true (sym (rw off at h)))
+  not-asked true false h = refl
+  not-asked false two h = refl
+
+  control-switches : (value : ℕ) → OnlyOn (controlOf geometry device area value)
+  unfolding controlOf OnlyOn
+  control-switches value =
+      either OnlyOn (bit value 0 && (eqb (device .«client_rev») 2 && not (device .on)))
+      (λ asked on.
+      let room = always-room geometry device ok area (bit value 1) in
+      record { interrupts = bit value 1; device-after = sym (ap (λ (outcome : Outcome). outcome .device) (room .0)); area-after = sym (room .1) })
+      (λ kept. stays-off _ (not-asked (bit value 0) (eqb (device .«client_rev») 2) kept))
+
+  client-rev-off : (value : ℕ) → clientRevOf device value .on ≡ false
+  unfolding clientRevOf
+  client-rev-off value = either (λ (after : Device). after .on ≡ false) (device .on) (λ on. off) (λ still. off)
+
+  effect-switches : (value : ℕ) (place : Place) → OnlyOn (effectOf geometry device area value place)
+  effect-switches value Magic = stays-off _ off
+  effect-switches value Rev = stays-off _ off
+  effect-switches value Control = control-switches value
+  effect-switches value EventSize = stays-off _ off
+  effect-switches value Npages = stays-off _ off
+  effect-switches value Acceleration = stays-off _ off
+  effect-switches value Isr = stays-off _ off
+  effect-switches value ConfSize = stays-off _ off
+  effect-switches value ClientRev = stays-off _ (client-rev-off value)
+  effect-switches value ReadPtr = stays-off _ off
+  effect-switches value EventArea = stays-off _ off
+  effect-switches value EntryPage = stays-off _ off
+  effect-switches value Nothing = stays-off _ off
+
+  write-switches : (pageSize offset width value : ℕ) → OnlyOn (writeOf geometry device area pageSize offset width value)
+  unfolding writeOf
+  write-switches pageSize offset width value =
+      either OnlyOn (eqb (accessAnswer geometry device (length area) pageSize true offset width) 0)
+      (λ done. effect-switches value (placeOf geometry offset)) (λ refused. stays-off _ off)
+
+-- a write that changes the state was a call
+was-call : (geometry : Geometry) (device : Device) (area : List ℕ) (pageSize offset width value : ℕ) → device .on ≡ false
+    → writeOf geometry device area pageSize offset width value .outcome .device .on ≡ true → Call geometry device (length area) pageSize
+unfolding writeOf
+was-call geometry device area pageSize offset width value off on = go (eqb (accessAnswer geometry device (length area) pageSize true offset width) 0) refl
+  where
+    go : (test : Bool) → eqb (accessAnswer geometry device (length area) pageSize true offset width) 0 ≡ test → Call geometry device (length area) pageSize
+    go true done = granted geometry device (length area) pageSize true offset width (eqb-true _ 0 done) .is-call
+    go false refused = absurd (false≢true (sym off ∙ rw refused at on))
+
+-- ---- the invariant
+
+module _ (geometry : Geometry) (world : World) (fresh : IsFresh (world .driver)) (off : world .device .on ≡ false) (offset width value : ℕ) where
+  -- the first records stand in the ring, and they alone
+  first-unread : Call geometry (world .device) (length (world .area)) (length (world .page))
+      → let records = startRecords geometry (world .device) in
+      unread (ringOf geometry) (putRecords (ringOf geometry) 0 records (clearedPointers (world .area))) 0 (indexAfter (ringOf geometry) 0 records) ≡ records
+  first-unread c =
+      let ok = c .is-allowed in
+      let low : 0 < ringLength geometry = omega (arith, sizes geometry ok .ring-low) in
+      let room = pointers-inside (length (world .area)) (ringOf geometry) (c .holds) in
+      let empty = unread-self (ringOf geometry) 0 low in
+      puts-unread (ringOf geometry) 0 0 (startRecords geometry (world .device)) (clearedPointers (world .area)) (rw (cleared-length (world .area) room) (c .holds)) low low
+      (start-events-fit geometry (world .device) ok) (omega (arith, empty, start-fits geometry (world .device) ok))
+      ∙ ap (λ (l : List Event). l ++ startRecords geometry (world .device)) (none-unread (ringOf geometry) (clearedPointers (world .area)) 0 low)
+
+  pub start-holds : call geometry world (write offset width value) .world .device .on ≡ true → Invariant geometry (call geometry world (write offset width value) .world) []
+  unfolding call OnlyOn
+  start-holds on =
+      let c = was-call geometry (world .device) (world .area) (length (world .page)) offset width value off on in
+      let s = write-switches geometry (world .device) (world .area) (c .is-allowed) off (length (world .page)) offset width value on in
+      let records : List Event = startRecords geometry (world .device) in
+      let cleared : List ℕ = clearedPointers (world .area) in
+      let rules = write-keeps geometry (world .device) (rules-device geometry (world .device) (c .keeps)) (world .area) (length (world .page)) offset width value in
+      let low : 0 < ringLength geometry = omega (arith, sizes geometry (c .is-allowed) .ring-low) in
+      let room = pointers-inside (length (world .area)) (ringOf geometry) (c .holds) in
+      let holds : Holds (length cleared) (ringOf geometry) = rw (cleared-length (world .area) room) (c .holds) in
+      let read-zero : readPointer (putRecords (ringOf geometry) 0 records cleared) ≡ 0 = puts-read-pointer (ringOf geometry) 0 records cleared holds low ∙ cleared-read (world .area) room in
+      record {
+        called = rw (write-size geometry (world .device) (world .area) (length (world .page)) offset width value) (called-with geometry _ c rules);
+        on = on;
+        is-driver = fresh-driver geometry (world .driver) fresh;
+        read-inside = rw (s .area-after, read-zero) low;
+        same-write = rw (s .area-after, s .device-after) (puts-write-pointer (ringOf geometry) 0 records cleared holds low (cleared-write (world .area) room));
+        ahead = rw (s .area-after, s .device-after, read-zero, first-unread c) (start-runs geometry (world .device) (c .is-allowed) (fresh-holding (world .driver) fresh));
+      }
+
+  -- nothing was refused yet
+  pub start-not-lost : call geometry world (write offset width value) .world .device .on ≡ true → call geometry world (write offset width value) .world .device .lost ≡ false
+  unfolding call OnlyOn
+  start-not-lost on =
+      let c = was-call geometry (world .device) (world .area) (length (world .page)) offset width value off on in
+      let s = write-switches geometry (world .device) (world .area) (c .is-allowed) off (length (world .page)) offset width value on in
+      rw (s .device-after)

@@ -1,0 +1,86 @@
+-- Demand 3, in plain words.
+--
+-- Take every allowed geometry, any device that is off, any event area and entry page, whatever they hold, a fresh driver, and any
+-- access after which the device is on. Then take every list of reads, writes, adds, removes, packets and driver steps, refused ones
+-- included, in which no write switches the device off or moves the read pointer. After the list:
+--
+--   the driver has received a front part of the accepted packets, each whole, in order, under its slot;
+--   it has received all of them if the last call was a step that answered "nothing to read";
+--   a gap shows before an accepted packet exactly when one was refused for room since the one accepted before it, or since switch-on.
+--
+-- Along the list the state rules go on holding, so no call is refused for its state, and no call answers 10.
+--
+-- The driver knows the pointers, the first 8 bytes of a record and 68 of an entry: whatever the pages hold beyond these, its steps,
+-- copy-outs and lookups give the same answers and leave it in the same state. This holds in any state.
+use Prim.Native.Nat.{ℕ}
+use mathlib.Core.Path.{_≡_}
+use mathlib.Core.Bool.{true, false}
+use mathlib.Core.List.{List, [], _∷_, _++_}
+use lib.ListN.{length}
+use Rattle.answers.specs.Answers.{badIndex}
+use Rattle.geometry.specs.declared.Geometry.{Geometry}
+use Rattle.geometry.specs.Geometry.{allowed, ringOf}
+use Rattle.records.specs.Unread.{SameToDriver}
+use Rattle.entries.specs.Lookup.{lookupAnswer, lookupPart, SameToDriver as SamePages}
+use Rattle.assembly.specs.declared.Driver.{Driver}
+use Rattle.driver.specs.Step.{isValid, stepOf}
+use Rattle.driver.specs.CopyOut.{copyOf}
+use Rattle.device.specs.Call.{isCall}
+use Rattle.delivery.specs.World.{World, Call, write, call}
+use Rattle.delivery.specs.Log.{Entry, Item, logOf, after, received, sent, numberIn, endsDry}
+use Rattle.delivery.specs.Premises.{IsFresh, AllAllowed}
+
+-- Front part, and all of them right after "nothing to read".
+pub record Delivered (log : List Entry) : Type 0 where
+  pub waiting : List Item
+  pub front : received log ++ waiting ≡ sent log
+  pub all : endsDry log ≡ true → received log ≡ sent log
+
+-- No state or geometry is refused.
+pub record StateHolds (geometry : Geometry) (world : World) : Type 0 where
+  pub device-holds : isCall geometry (world .device) (length (world .area)) (length (world .page)) ≡ true
+  pub driver-holds : isValid geometry (world .driver) (length (world .area)) ≡ true
+
+abbrev pub NoBadIndex : List Entry → Type 0
+NoBadIndex [] = Unit {0}
+NoBadIndex (entry ∷ rest) = (numberIn (entry .answered) ≡ badIndex → ⊥) × NoBadIndex rest
+
+-- One claim about the list. It is about every front part of the list too, which is a list of its own.
+pub record AfterList (geometry : Geometry) (start : World) (calls : List Call) : Type 0 where
+  pub delivered : Delivered (logOf geometry start calls)
+  pub state-holds : StateHolds geometry (after geometry start calls)
+  pub no-bad-index : NoBadIndex (logOf geometry start calls)
+
+abbrev pub Delivery : Type 0
+Delivery =
+    (geometry : Geometry) → allowed geometry ≡ true
+    → (world : World) → IsFresh (world .driver) → world .device .on ≡ false
+    → (offset width value : ℕ) → call geometry world (write offset width value) .world .device .on ≡ true
+    → (calls : List Call) → AllAllowed geometry (call geometry world (write offset width value) .world) calls
+    → AfterList geometry (call geometry world (write offset width value) .world) calls
+
+-- ---- the last sentence, for each call of the driver in any state
+
+abbrev pub StepUnknowing : Type 0
+StepUnknowing =
+    (geometry : Geometry) (driver : Driver) (left right : List ℕ) → SameToDriver (ringOf geometry) left right
+    → (stepOf geometry driver left .stepped ≡ stepOf geometry driver right .stepped)
+    × SameToDriver (ringOf geometry) (stepOf geometry driver left .area) (stepOf geometry driver right .area)
+
+abbrev pub CopyOutUnknowing : Type 0
+CopyOutUnknowing =
+    (geometry : Geometry) (limit : ℕ) (out left right : List ℕ) → SameToDriver (ringOf geometry) left right
+    → (copyOf geometry left limit out .copied ≡ copyOf geometry right limit out .copied)
+    × (copyOf geometry left limit out .out ≡ copyOf geometry right limit out .out)
+    × SameToDriver (ringOf geometry) (copyOf geometry left limit out .area) (copyOf geometry right limit out .area)
+
+abbrev pub LookupUnknowing : Type 0
+LookupUnknowing =
+    (geometry : Geometry) (left right : List ℕ) (slot : ℕ) → SamePages geometry left right
+    → (lookupAnswer geometry left slot ≡ lookupAnswer geometry right slot) × (lookupPart geometry left slot ≡ lookupPart geometry right slot)
+
+pub record Demand3 : Type 0 where
+  pub delivery : Delivery
+  pub step-unknowing : StepUnknowing
+  pub copy-out-unknowing : CopyOutUnknowing
+  pub lookup-unknowing : LookupUnknowing

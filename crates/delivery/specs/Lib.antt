@@ -1,0 +1,5 @@
+pub mod World
+pub mod Log
+pub mod Premises
+pub mod Demand3
+pub mod Example

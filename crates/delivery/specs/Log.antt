@@ -1,0 +1,112 @@
+-- What was sent and what was received, from the calls' arguments and answers alone.
+use Prim.Native.Nat.{ℕ}
+use mathlib.Core.Bool.{Bool, true, false, cond}
+use mathlib.Core.List.{List, [], _∷_, _++_}
+use lib.Dec.{eqb}
+use lib.ListN.{take}
+use Rattle.answers.specs.Answers.{done, noRoom, nothingToRead}
+use Rattle.geometry.specs.declared.Geometry.{Geometry}
+use Rattle.records.specs.declared.Event.{Event}
+use Rattle.assembly.specs.declared.Stepped.{Stepped}
+use Rattle.assembly.specs.declared.Told.{Told}
+use Rattle.assembly.specs.declared.Told.the-variants as told
+use Rattle.assembly.specs.Transition.{answerOf}
+use Rattle.packets.specs.Packet.{eventsOf}
+use Rattle.delivery.specs.World.{World, Call, read, write, add, remove, packet, step, Answer, numbered, valued, stepped, call}
+
+-- A call with what it answered.
+pub record Entry : Type 0 where
+  pub did : Call
+  pub answered : Answer
+
+-- The log of a list of calls, and the world after it.
+abbrev pub logOf : Geometry → World → List Call → List Entry
+logOf geometry world [] = []
+logOf geometry world (next ∷ rest) =
+    record { did = next; answered = call geometry world next .answer } ∷ logOf geometry (call geometry world next .world) rest
+
+abbrev pub after : Geometry → World → List Call → World
+after geometry world [] = world
+after geometry world (next ∷ rest) = after geometry (call geometry world next .world) rest
+
+-- What is told in order: packets, each a slot with its events, and gaps.
+pub data Item : Type 0 where
+  gap : Item
+  whole : (slot : ℕ) → List Event → Item
+
+-- ---- received: the gaps and packets that steps answered
+
+abbrev pub toldBy : Told → List Event → List Item
+toldBy (told.Refused number) events = []
+toldBy told.Nothing events = []
+toldBy told.Gap events = gap ∷ []
+toldBy told.EmptyReport events = []
+toldBy (told.Packet slot count) events = whole slot (take count events) ∷ []
+toldBy (told.Set slot) events = []
+toldBy (told.Conf slot) events = []
+toldBy (told.Reset slot) events = []
+toldBy told.ResetAll events = []
+
+abbrev pub heard : Stepped → List Item
+heard result = toldBy (result .told) (result .driver .events)
+
+abbrev pub heardIn : Answer → List Item
+heardIn (numbered n) = []
+heardIn (valued v) = []
+heardIn (stepped result) = heard result
+
+abbrev pub received : List Entry → List Item
+received [] = []
+received (entry ∷ rest) = heardIn (entry .answered) ++ received rest
+
+-- ---- sent: the packets answered 0, each after one gap if one was answered 7 since the last of them, or since switch-on
+
+abbrev pub gapIf : Bool → List Item
+gapIf refused = cond refused (gap ∷ []) []
+
+abbrev pub numberIn : Answer → ℕ
+numberIn (numbered n) = n
+numberIn (valued v) = v .answer
+numberIn (stepped result) = answerOf (result .told)
+
+-- `refused`: a packet was refused for room since the one accepted before, or since switch-on.
+abbrev pub sentBy : Bool → Call → ℕ → List Item
+sentBy refused (read offset width) n = []
+sentBy refused (write offset width value) n = []
+sentBy refused (add slot entry) n = []
+sentBy refused (remove slot) n = []
+sentBy refused (packet new) n = cond (eqb n done) (gapIf refused ++ (whole (new .slot) (eventsOf new) ∷ [])) []
+sentBy refused step n = []
+
+abbrev pub refusedAfter : Bool → Call → ℕ → Bool
+refusedAfter refused (read offset width) n = refused
+refusedAfter refused (write offset width value) n = refused
+refusedAfter refused (add slot entry) n = refused
+refusedAfter refused (remove slot) n = refused
+refusedAfter refused (packet new) n = cond (eqb n done) false (cond (eqb n noRoom) true refused)
+refusedAfter refused step n = refused
+
+abbrev pub sentFrom : Bool → List Entry → List Item
+sentFrom refused [] = []
+sentFrom refused (entry ∷ rest) =
+    sentBy refused (entry .did) (numberIn (entry .answered)) ++ sentFrom (refusedAfter refused (entry .did) (numberIn (entry .answered))) rest
+
+abbrev pub sent : List Entry → List Item
+sent log = sentFrom false log
+
+-- ---- the last call was a step that answered 11
+
+abbrev pub isDry : Call → ℕ → Bool
+isDry (read offset width) n = false
+isDry (write offset width value) n = false
+isDry (add slot entry) n = false
+isDry (remove slot) n = false
+isDry (packet new) n = false
+isDry step n = eqb n nothingToRead
+
+abbrev pub endsDryFrom : Bool → List Entry → Bool
+endsDryFrom dry [] = dry
+endsDryFrom dry (entry ∷ rest) = endsDryFrom (isDry (entry .did) (numberIn (entry .answered))) rest
+
+abbrev pub endsDry : List Entry → Bool
+endsDry log = endsDryFrom false log

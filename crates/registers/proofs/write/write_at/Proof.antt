@@ -1,0 +1,78 @@
+use mathlib.Core.Path.{_∙_}
+use Rattle.registers.proofs.Laws.Write.{no-effect}
+use borrow.Author.Needs.{needs}
+use Rattle.registers.proofs.write.write_at.Statement.{statement}
+use Rattle.registers.proofs.write.write_at.Tie as tie
+
+enum-told : tie.Need-enum-told
+enum-told c = search needs
+
+write-control-requires : tie.Need-write-control-requires
+write-control-requires c κs = search needs
+
+enum-told-2 : tie.Need-enum-told-2
+enum-told-2 c = search needs
+
+write-isr-requires : tie.Need-write-isr-requires
+write-isr-requires c κs = search needs
+
+enum-told-3 : tie.Need-enum-told-3
+enum-told-3 c = search needs
+
+write-client-rev-requires : tie.Need-write-client-rev-requires
+write-client-rev-requires c κs = search needs
+
+enum-told-4 : tie.Need-enum-told-4
+enum-told-4 c = search needs
+
+set-read-pointer-requires : tie.Need-set-read-pointer-requires
+set-read-pointer-requires c κs = search needs
+
+done-requires : tie.Need-done-requires
+done-requires c κs = search needs
+
+done-requires-2 : tie.Need-done-requires-2
+done-requires-2 c κs = search needs
+
+same-length : tie.Need-same-length
+same-length c = search needs
+
+returns : tie.Need-returns
+returns c = (c .before .before .write-control .ensures .0 ∙ rw (c .before .before .before .before .enum-told .given .1), c .before .before .write-control .ensures .1 ∙ rw (c .before .before .before .before .enum-told .given .1))
+
+returns-2 : tie.Need-returns-2
+returns-2 c = (c .write-isr .ensures ∙ rw (c .before .enum-told2 .given .1), rw (c .before .enum-told2 .given .1))
+
+returns-3 : tie.Need-returns-3
+returns-3 c = (c .write-client-rev .ensures ∙ rw (c .before .enum-told3 .given .1), rw (c .before .enum-told3 .given .1))
+
+same-length-2 : tie.Need-same-length-2
+same-length-2 c = search needs
+
+returns-4 : tie.Need-returns-4
+returns-4 c = (c .done .ensures ∙ rw (c .before .before .before .before .before .enum-told4 .given .1), c .before .before .before .set-read-pointer .ensures ∙ rw (c .before .before .before .before .before .enum-told4 .given .1))
+
+returns-5 : tie.Need-returns-5
+returns-5 c = let none = no-effect (c .before .before .before .args .geometry) (c .before .before .before .args .device) (c .before .before .before .args .area .now) (c .before .before .before .args .value) (c .before .before .before .args .place) (c .before .match .keys5) in (c .done2 .ensures ∙ rw none, rw none)
+
+pub write-at-spec : {M : Type 1} → statement M
+write-at-spec =
+    tie.close
+    (tie.spec
+    enum-told
+    write-control-requires
+    enum-told-2
+    write-isr-requires
+    enum-told-3
+    write-client-rev-requires
+    enum-told-4
+    set-read-pointer-requires
+    done-requires
+    done-requires-2
+    same-length
+    returns
+    returns-2
+    returns-3
+    same-length-2
+    returns-4
+    returns-5)

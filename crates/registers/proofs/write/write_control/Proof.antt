@@ -1,0 +1,54 @@
+use borrow.Author.Tests.{not-true, not-false}
+use Rattle.registers.proofs.Laws.Write.{control-off, control-stays-off, control-stays-on, control-switches}
+use borrow.Author.Needs.{needs}
+use Rattle.registers.proofs.write.write_control.Statement.{statement}
+use Rattle.registers.proofs.write.write_control.Tie as tie
+
+is-set-requires : tie.Need-is-set-requires
+is-set-requires c κs = search needs
+
+is-set-requires-2 : tie.Need-is-set-requires-2
+is-set-requires-2 c κs = search needs
+
+hold-control-requires : tie.Need-hold-control-requires
+hold-control-requires c κs = search needs
+
+returns : tie.Need-returns
+returns c = control-off (c .before .before .before .before .before .args .geometry) (c .before .before .before .before .before .args .device) (c .before .before .before .before .before .args .area .now) (c .before .before .before .before .before .args .value) (c .before .before .is-set2 .ensures) (c .before .before .before .is-set .ensures) (not-true _ (c .before .if1 .taken)) (c .hold-control .ensures)
+
+hold-control-requires-2 : tie.Need-hold-control-requires-2
+hold-control-requires-2 c κs = search needs
+
+returns-2 : tie.Need-returns-2
+returns-2 c = control-stays-off (c .before .before .before .before .before .before .before .args .geometry) (c .before .before .before .before .before .before .before .args .device) (c .before .before .before .before .before .before .before .args .area .now) (c .before .before .before .before .before .before .before .args .value) (c .before .before .before .before .is-set2 .ensures) (c .before .before .before .before .before .is-set .ensures) (not-false _ (c .before .before .before .if1 .left)) (c .before .if2 .taken) (c .hold-control2 .ensures)
+
+hold-control-requires-3 : tie.Need-hold-control-requires-3
+hold-control-requires-3 c κs = search needs
+
+returns-3 : tie.Need-returns-3
+returns-3 c = control-stays-on (c .before .before .before .before .before .before .before .before .args .geometry) (c .before .before .before .before .before .before .before .before .args .device) (c .before .before .before .before .before .before .before .before .args .area .now) (c .before .before .before .before .before .before .before .before .args .value) (c .before .before .before .before .before .is-set2 .ensures) (c .before .before .before .before .before .before .is-set .ensures) (not-false _ (c .before .before .before .before .if1 .left)) (c .before .before .if2 .left) (c .before .if3 .taken) (c .hold-control3 .ensures)
+
+switch-on-requires : tie.Need-switch-on-requires
+switch-on-requires c κs = search needs
+
+same-length : tie.Need-same-length
+same-length c = search needs
+
+returns-4 : tie.Need-returns-4
+returns-4 c = control-switches (c .before .before .before .before .before .before .before .before .before .before .before .args .geometry) (c .before .before .before .before .before .before .before .before .before .before .before .args .device) (c .before .before .before .before .before .before .before .before .before .before .before .args .area .now) (c .before .before .before .before .before .before .before .before .before .before .before .args .value) (c .before .before .before .before .before .before .before .before .is-set2 .ensures) (c .before .before .before .before .before .before .before .before .before .is-set .ensures) (not-false _ (c .before .before .before .before .before .before .before .if1 .left)) (c .before .before .before .before .before .if2 .left) (c .before .before .before .before .if3 .left) (c .before .before .switch-on .ensures)
+
+pub write-control-spec : {M : Type 1} → statement M
+write-control-spec =
+    tie.close
+    (tie.spec
+    is-set-requires
+    is-set-requires-2
+    hold-control-requires
+    returns
+    hold-control-requires-2
+    returns-2
+    hold-control-requires-3
+    returns-3
+    switch-on-requires
+    same-length
+    returns-4)

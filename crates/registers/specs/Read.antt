@@ -1,0 +1,42 @@
+-- What a read gives (01, "Registers"). A refused read gives value 0.
+use Prim.Native.Nat.{ℕ, _+_, _-_, _*_}
+use mathlib.Core.Bool.{Bool, false, cond}
+use mathlib.Core.List.{List}
+use lib.Dec.{eqb}
+use lib.ListN.{length}
+use Rattle.words.specs.Words.{u32At}
+use Rattle.answers.specs.Answers.{done}
+use Rattle.geometry.specs.declared.Geometry.{Geometry}
+use Rattle.geometry.specs.Geometry.{areaLength}
+use Rattle.device.specs.declared.Device.{Device}
+use Rattle.registers.specs.declared.Place.{Place}
+use Rattle.registers.specs.declared.Place.the-variants.{Magic, Rev, Control, EventSize, Npages, Acceleration, Isr, ConfSize, ClientRev, ReadPtr, EventArea, EntryPage, Nothing}
+use Rattle.registers.specs.declared.Value.{Value}
+use Rattle.registers.specs.Place.{placeOf}
+use Rattle.registers.specs.Access.{accessAnswer}
+
+abbrev pub bitOf : Bool → ℕ
+bitOf set = cond set 1 0
+
+-- REV reads 1 until CLIENT_REV has been written while off. CONTROL has bits 0 (on) and 1 (interrupts). ACCELERATION reads 0.
+-- The words of the event area and of the entry page read as the bytes there.
+abbrev pub valueOf : Geometry → Device → List ℕ → List ℕ → ℕ → Place → ℕ
+valueOf geometry device area page offset Magic = 0x584D4F55
+valueOf geometry device area page offset Rev = cond (device .«client_rev_written») 2 1
+valueOf geometry device area page offset Control = bitOf (device .on) + 2 * bitOf (device .interrupts)
+valueOf geometry device area page offset EventSize = geometry .«record_size»
+valueOf geometry device area page offset Npages = geometry .pages
+valueOf geometry device area page offset Acceleration = 0
+valueOf geometry device area page offset Isr = bitOf (device .isr)
+valueOf geometry device area page offset ConfSize = geometry .«entry_size»
+valueOf geometry device area page offset ClientRev = device .«client_rev»
+valueOf geometry device area page offset ReadPtr = u32At area 0
+valueOf geometry device area page offset EventArea = u32At area (offset - 0x1000)
+valueOf geometry device area page offset EntryPage = u32At page (offset - (0x1000 + areaLength geometry))
+valueOf geometry device area page offset Nothing = 0
+
+unfoldable pub readOf : Geometry → Device → List ℕ → List ℕ → ℕ → ℕ → Value
+readOf geometry device area page offset width =
+    cond (eqb (accessAnswer geometry device (length area) (length page) false offset width) done)
+    (record { answer = done; value = valueOf geometry device area page offset (placeOf geometry offset) })
+    (record { answer = accessAnswer geometry device (length area) (length page) false offset width; value = 0 })

@@ -1,0 +1,100 @@
+// A read of the BAR.
+use crate::Place;
+use crate::Value;
+use crate::access::AREA_OFFSET;
+use crate::access::access_refusal;
+use crate::access::place_of;
+use answers::DONE;
+use device::Device;
+use geometry::Geometry;
+ghost use mathlib.Core.Path.{_≡_};
+ghost use mathlib.Core.Bool.{false, cond};
+ghost use Prim.Native.Nat.{_+_, _*_, _≤_};
+ghost use lib.ListN.{length};
+ghost use Rattle.registers.specs.Place.{placeOf};
+ghost use Rattle.registers.specs.Access.{accessAnswer};
+ghost use Rattle.registers.specs.Read.{bitOf, valueOf, readOf};
+
+const MAGIC: u32 = 0x584D_4F55;
+
+pub(crate) fn bit_of(set: bool) -> u32
+    ensures { λ r. ⌜ (r ≡ bitOf set) × (r ≤ 1) ⌝ }
+{
+    if set {
+        return 1;
+    }
+    0
+}
+
+fn revision(client_rev_written: bool) -> u32
+    ensures { λ r. ⌜ r ≡ cond «client_rev_written» 2 1 ⌝ }
+{
+    if client_rev_written {
+        return 2;
+    }
+    1
+}
+
+fn control(on: bool, interrupts: bool) -> u32
+    ensures { λ r. ⌜ r ≡ bitOf on + 2 * bitOf interrupts ⌝ }
+{
+    bit_of(on) + 2 * bit_of(interrupts)
+}
+
+fn value_at(geometry: Geometry, device: Device, area: &[u8], page: &[u8], offset: u64) -> u32
+    requires { ⌜ accessAnswer geometry device (length (now area)) (length (now page)) false offset 4 ≡ 0 ⌝ }
+    ensures { λ r. ⌜ r ≡ valueOf geometry device (now (area .entry)) (now (page .entry)) offset (placeOf geometry offset) ⌝ }
+{
+    let place = place_of(geometry, offset);
+    match place {
+        Place::Magic => MAGIC,
+        Place::Rev => revision(device.client_rev_written),
+        Place::Control => control(device.on, device.interrupts),
+        Place::EventSize => geometry.record_size,
+        Place::Npages => geometry.pages,
+        Place::Acceleration => 0,
+        Place::Isr => bit_of(device.isr),
+        Place::ConfSize => geometry.entry_size,
+        Place::ClientRev => device.client_rev,
+        Place::ReadPtr => words::read_u32(area, 0),
+        Place::EventArea => words::read_u32(area, (offset - AREA_OFFSET) as usize),
+        Place::EntryPage => {
+            let start = AREA_OFFSET + geometry::area_length(geometry) as u64;
+            words::read_u32(page, (offset - start) as usize)
+        }
+        Place::Nothing => 0,
+    }
+}
+
+// Any offset, width, state and pages get an answer.
+pub fn read_rule(
+    geometry: Geometry,
+    device: Device,
+    area: &[u8],
+    page: &[u8],
+    offset: u64,
+    width: u32,
+) -> Value
+    ensures { λ r. ⌜ r ≡ readOf geometry device (now (area .entry)) (now (page .entry)) offset width ⌝ }
+{
+    let refusal = access_refusal(
+        geometry,
+        device,
+        area.len(),
+        page.len(),
+        false,
+        offset,
+        width,
+    );
+    if refusal != DONE {
+        return Value {
+            answer: refusal,
+            value: 0,
+        };
+    }
+    let value = value_at(geometry, device, area, page, offset);
+    Value {
+        answer: DONE,
+        value: value,
+    }
+}

@@ -1,0 +1,130 @@
+// A write to the BAR.
+use crate::Place;
+use crate::access::access_refusal;
+use crate::access::place_of;
+use crate::switch::switch_on;
+use answers::DONE;
+use device::Device;
+use device::Outcome;
+use geometry::Geometry;
+ghost use mathlib.Core.Path.{_≡_};
+ghost use mathlib.Core.Bool.{true};
+ghost use lib.ListN.{length};
+ghost use Rattle.geometry.specs.Geometry.{allowed, ringOf};
+ghost use Rattle.records.specs.Ring.{Holds};
+ghost use Rattle.registers.specs.Write.{withControl, withIsrCleared, doneWith, controlOf, clientRevOf, effectOf, writeOf};
+
+fn done(device: Device) -> Outcome
+    ensures { λ r. ⌜ r ≡ doneWith device ⌝ }
+{
+    Outcome {
+        answer: DONE,
+        device: device,
+    }
+}
+
+fn hold_control(device: Device, on: bool, interrupts: bool) -> Outcome
+    ensures { λ r. ⌜ r ≡ doneWith (withControl on interrupts device) ⌝ }
+{
+    let mut after = device;
+    after.on = on;
+    after.interrupts = interrupts;
+    done(after)
+}
+
+fn write_control(geometry: Geometry, device: Device, area: &mut [u8], value: u32) -> Outcome
+    requires { ⌜ (allowed geometry ≡ true) × (Holds (length (now area)) (ringOf geometry)) ⌝ }
+    ensures { λ r. ⌜ r ≡ controlOf geometry device (now (area .entry)) value .outcome ⌝ }
+    ensures { λ r. ⌜ now (area .exit) ≡ controlOf geometry device (now (area .entry)) value .area ⌝ }
+{
+    let interrupts = bits::is_set(value as u64, 1);
+    if !bits::is_set(value as u64, 0) {
+        return hold_control(device, false, interrupts);
+    }
+    if device.client_rev != 2 {
+        return hold_control(device, false, interrupts);
+    }
+    if device.on {
+        return hold_control(device, true, interrupts);
+    }
+    switch_on(geometry, device, area, interrupts)
+}
+
+fn write_isr(device: Device) -> Outcome
+    ensures { λ r. ⌜ r ≡ doneWith (withIsrCleared device) ⌝ }
+{
+    let mut after = device;
+    after.isr = false;
+    done(after)
+}
+
+fn write_client_rev(device: Device, value: u32) -> Outcome
+    ensures { λ r. ⌜ r ≡ doneWith (clientRevOf device value) ⌝ }
+{
+    if device.on {
+        return done(device);
+    }
+    let mut after = device;
+    after.client_rev_written = true;
+    after.client_rev = 0;
+    if value == 2 {
+        after.client_rev = 2;
+        return done(after);
+    }
+    done(after)
+}
+
+fn write_at(
+    geometry: Geometry,
+    device: Device,
+    area: &mut [u8],
+    place: Place,
+    value: u32,
+) -> Outcome
+    requires { ⌜ (allowed geometry ≡ true) × (Holds (length (now area)) (ringOf geometry)) ⌝ }
+    ensures { λ r. ⌜ r ≡ effectOf geometry device (now (area .entry)) value place .outcome ⌝ }
+    ensures { λ r. ⌜ now (area .exit) ≡ effectOf geometry device (now (area .entry)) value place .area ⌝ }
+{
+    match place {
+        Place::Control => write_control(geometry, device, area, value),
+        Place::Isr => write_isr(device),
+        Place::ClientRev => write_client_rev(device, value),
+        Place::ReadPtr => {
+            records::set_read_pointer(area, value);
+            done(device)
+        }
+        _ => done(device),
+    }
+}
+
+// Any offset, width, value, state and pages get an answer. Of the entry page the length alone matters.
+pub fn write_rule(
+    geometry: Geometry,
+    device: Device,
+    area: &mut [u8],
+    page: &[u8],
+    offset: u64,
+    width: u32,
+    value: u32,
+) -> Outcome
+    ensures { λ r. ⌜ r ≡ writeOf geometry device (now (area .entry)) (length (now (page .entry))) offset width value .outcome ⌝ }
+    ensures { λ r. ⌜ now (area .exit) ≡ writeOf geometry device (now (area .entry)) (length (now (page .entry))) offset width value .area ⌝ }
+{
+    let refusal = access_refusal(
+        geometry,
+        device,
+        area.len(),
+        page.len(),
+        true,
+        offset,
+        width,
+    );
+    if refusal != DONE {
+        return Outcome {
+            answer: refusal,
+            device: device,
+        };
+    }
+    let place = place_of(geometry, offset);
+    write_at(geometry, device, area, place, value)
+}
