@@ -77,16 +77,14 @@ fn add_refusal(
 
 // Stores the lent entry, all of it, and tells the guest.
 pub fn add_rule(
-    geometry: Geometry,
     device: Device,
+    geometry: Geometry,
     area: &mut [u8],
     page: &mut [u8],
     slot: u32,
     entry: &[u8],
 ) -> Outcome
-    ensures { λ r. ⌜ r ≡ addOf geometry device (now (area .entry)) (now (page .entry)) slot (now (entry .entry)) .outcome ⌝ }
-    ensures { λ r. ⌜ now (area .exit) ≡ addOf geometry device (now (area .entry)) (now (page .entry)) slot (now (entry .entry)) .area ⌝ }
-    ensures { λ r. ⌜ now (page .exit) ≡ addOf geometry device (now (area .entry)) (now (page .entry)) slot (now (entry .entry)) .page ⌝ }
+    ensures { λ r. ⌜ (r ≡ addOf geometry device (now (area .entry)) (now (page .entry)) slot (now (entry .entry)) .outcome) × ((now (area .exit) ≡ addOf geometry device (now (area .entry)) (now (page .entry)) slot (now (entry .entry)) .area) × (now (page .exit) ≡ addOf geometry device (now (area .entry)) (now (page .entry)) slot (now (entry .entry)) .page)) ⌝ }
 {
     let refusal = add_refusal(geometry, device, &area[..], &page[..], slot, entry);
     if refusal != DONE {
@@ -128,15 +126,13 @@ fn current_without(current: u32, slot: u32) -> u32
 
 // Zeroes the slot's entry, and tells the guest.
 pub fn remove_rule(
-    geometry: Geometry,
     device: Device,
+    geometry: Geometry,
     area: &mut [u8],
     page: &mut [u8],
     slot: u32,
 ) -> Outcome
-    ensures { λ r. ⌜ r ≡ removeOf geometry device (now (area .entry)) (now (page .entry)) slot .outcome ⌝ }
-    ensures { λ r. ⌜ now (area .exit) ≡ removeOf geometry device (now (area .entry)) (now (page .entry)) slot .area ⌝ }
-    ensures { λ r. ⌜ now (page .exit) ≡ removeOf geometry device (now (area .entry)) (now (page .entry)) slot .page ⌝ }
+    ensures { λ r. ⌜ (r ≡ removeOf geometry device (now (area .entry)) (now (page .entry)) slot .outcome) × ((now (area .exit) ≡ removeOf geometry device (now (area .entry)) (now (page .entry)) slot .area) × (now (page .exit) ≡ removeOf geometry device (now (area .entry)) (now (page .entry)) slot .page)) ⌝ }
 {
     let refusal = remove_refusal(geometry, device, &area[..], &page[..], slot);
     if refusal != DONE {

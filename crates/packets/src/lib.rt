@@ -111,14 +111,13 @@ fn accept(device: Device, slot: u32, index: u32) -> Device
 
 // Refuses in order, tests the room for all records, then puts them.
 pub fn packet_rule(
-    geometry: Geometry,
     device: Device,
+    geometry: Geometry,
     area: &mut [u8],
     page: &[u8],
     packet: Packet,
 ) -> Outcome
-    ensures { λ r. ⌜ r ≡ packetOf geometry device (now (area .entry)) (now (page .entry)) packet .outcome ⌝ }
-    ensures { λ r. ⌜ now (area .exit) ≡ packetOf geometry device (now (area .entry)) (now (page .entry)) packet .area ⌝ }
+    ensures { λ r. ⌜ (r ≡ packetOf geometry device (now (area .entry)) (now (page .entry)) packet .outcome) × (now (area .exit) ≡ packetOf geometry device (now (area .entry)) (now (page .entry)) packet .area) ⌝ }
 {
     let refusal = packet_refusal(geometry, device, &area[..], page, packet);
     match refusal {

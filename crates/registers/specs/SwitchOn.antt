@@ -49,11 +49,18 @@ pub record WriteResult : Type 0 where
   pub outcome : Outcome
   pub area : List ℕ
 
+-- What it leaves where its records fit.
+abbrev pub started : Geometry → Device → List ℕ → Bool → WriteResult
+started geometry device area interrupts = record {
+  outcome = record {
+    answer = done;
+    device = switchedOn interrupts (indexAfter (ringOf geometry) 0 (startRecords geometry device)) device;
+  };
+  area = putRecords (ringOf geometry) 0 (startRecords geometry device) (clearedPointers area);
+}
+
 unfoldable pub switchOn : Geometry → Device → List ℕ → Bool → WriteResult
 switchOn geometry device area interrupts =
     cond (leb (length (startRecords geometry device)) (ringLength geometry - 1))
-    (record {
-      outcome = record { answer = done; device = switchedOn interrupts (indexAfter (ringOf geometry) 0 (startRecords geometry device)) device };
-      area = putRecords (ringOf geometry) 0 (startRecords geometry device) (clearedPointers area);
-    })
+    (started geometry device area interrupts)
     (record { outcome = record { answer = noRoom; device = device }; area = area })

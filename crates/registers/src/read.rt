@@ -68,8 +68,8 @@ fn value_at(geometry: Geometry, device: Device, area: &[u8], page: &[u8], offset
 
 // Any offset, width, state and pages get an answer.
 pub fn read_rule(
-    geometry: Geometry,
     device: Device,
+    geometry: Geometry,
     area: &[u8],
     page: &[u8],
     offset: u64,

@@ -99,16 +99,15 @@ fn write_at(
 
 // Any offset, width, value, state and pages get an answer. Of the entry page the length alone matters.
 pub fn write_rule(
-    geometry: Geometry,
     device: Device,
+    geometry: Geometry,
     area: &mut [u8],
     page: &[u8],
     offset: u64,
     width: u32,
     value: u32,
 ) -> Outcome
-    ensures { λ r. ⌜ r ≡ writeOf geometry device (now (area .entry)) (length (now (page .entry))) offset width value .outcome ⌝ }
-    ensures { λ r. ⌜ now (area .exit) ≡ writeOf geometry device (now (area .entry)) (length (now (page .entry))) offset width value .area ⌝ }
+    ensures { λ r. ⌜ (r ≡ writeOf geometry device (now (area .entry)) (length (now (page .entry))) offset width value .outcome) × (now (area .exit) ≡ writeOf geometry device (now (area .entry)) (length (now (page .entry))) offset width value .area) ⌝ }
 {
     let refusal = access_refusal(
         geometry,

@@ -26,7 +26,6 @@ use Rattle.records.proofs.Laws.Unread.{none-unread}
 use Rattle.assembly.specs.declared.Driver.{Driver}
 use Rattle.driver.specs.Step.{isDriver}
 use Rattle.device.specs.declared.Device.{Device}
-use Rattle.device.specs.declared.Outcome.{Outcome}
 use Rattle.device.proofs.Laws.Call.{Call}
 use Rattle.registers.specs.declared.Place.{Place}
 use Rattle.registers.specs.declared.Place.the-variants.{Magic, Rev, Control, EventSize, Npages, Acceleration, Isr, ConfSize, ClientRev, ReadPtr, EventArea, EntryPage, Nothing}
@@ -35,7 +34,7 @@ use Rattle.registers.specs.Access.{accessAnswer}
 use Rattle.registers.specs.SwitchOn.{WriteResult, takenFrom, startRecords, clearedPointers, switchedOn}
 use Rattle.registers.specs.Write.{controlOf, clientRevOf, effectOf, writeOf}
 use Rattle.registers.proofs.Laws.Access.{granted}
-use Rattle.registers.proofs.Laws.SwitchOn.{start-fits, always-room, start-events-fit}
+use Rattle.registers.proofs.Laws.SwitchOn.{start-fits, always-starts, start-events-fit}
 use Rattle.registers.proofs.Laws.Keeps.{write-keeps, write-size}
 use Rattle.delivery.specs.World.{World, write, call}
 use Rattle.delivery.specs.Premises.{IsFresh}
@@ -118,8 +117,8 @@ module _ (geometry : Geometry) (device : Device) (area : List ℕ) (ok : allowed
   control-switches value =
       either OnlyOn (bit value 0 && (eqb (device .«client_rev») 2 && not (device .on)))
       (λ asked on.
-      let room = always-room geometry device ok area (bit value 1) in
-      record { interrupts = bit value 1; device-after = sym (ap (λ (outcome : Outcome). outcome .device) (room .0)); area-after = sym (room .1) })
+      let start = always-starts geometry device ok area (bit value 1) in
+      record { interrupts = bit value 1; device-after = ap (λ (result : WriteResult). result .outcome .device) start; area-after = ap (λ (result : WriteResult). result .area) start })
       (λ kept. stays-off _ (not-asked (bit value 0) (eqb (device .«client_rev») 2) kept))
 
   client-rev-off : (value : ℕ) → clientRevOf device value .on ≡ false

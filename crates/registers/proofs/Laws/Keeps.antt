@@ -26,13 +26,14 @@ use Rattle.registers.specs.Access.{accessAnswer}
 use Rattle.registers.specs.SwitchOn.{WriteResult, startRecords, clearedPointers, switchedOn, switchOn}
 use Rattle.registers.specs.Write.{withControl, withIsrCleared, withClientRev, controlOf, clientRevOf, effectOf, writeOf}
 use Rattle.registers.proofs.Laws.Access.{granted}
-use Rattle.registers.proofs.Laws.SwitchOn.{always-room}
+use Rattle.registers.proofs.Laws.SwitchOn.{always-starts}
 
 -- a state that keeps each rule keeps the rules
 kept : (geometry : Geometry) (device : Device) → Rules geometry device → isDevice geometry device ≡ true
 unfolding isDevice
 kept geometry device keeps = rw (lt-ltb (device .«write_index») (ringLength geometry) (keeps .write-inside), keeps .client-rev, lt-ltb _ _ (keeps .taken-inside), keeps .current)
 
+-- what holds of one where the test holds, and of the other where not, holds of the chosen one
 choose : {A : Type 0} (P : A → Type 0) (test : Bool) (one other : A) → (test ≡ true → P one) → (test ≡ false → P other) → P (cond test one other)
 choose P true one other p q = p refl
 choose P false one other p q = q refl
@@ -100,7 +101,7 @@ module _ (geometry : Geometry) (device : Device) (valid : isDevice geometry devi
   module _ (sized : allowed geometry ≡ true) (area : List ℕ) (value : ℕ) where
     switch-keeps : eqb (device .«client_rev») 2 ≡ true → isDevice geometry (switchOn geometry device area (bit value 1) .outcome .device) ≡ true
     switch-keeps two =
-        rw (← always-room geometry device sized area (bit value 1) .0)
+        rw (always-starts geometry device sized area (bit value 1))
         (with-switch (bit value 1) _ two (after-inside (ringOf geometry) 0 (startRecords geometry device) (omega (arith, sizes geometry sized))))
 
     pub control-keeps : isDevice geometry (controlOf geometry device area value .outcome .device) ≡ true
@@ -145,7 +146,7 @@ module _ (geometry : Geometry) (device : Device) (area : List ℕ) (value : ℕ)
 
   switch-size : (interrupts : Bool) → length (switchOn geometry device area interrupts .area) ≡ length area
   switch-size interrupts =
-      rw (← always-room geometry device sized area interrupts .1)
+      rw (always-starts geometry device sized area interrupts)
       (puts-length (ringOf geometry) 0 (startRecords geometry device) (clearedPointers area) (rw cleared-size holds) (omega (arith, sizes geometry sized)) ∙ cleared-size)
 
   control-size : length (controlOf geometry device area value .area) ≡ length area

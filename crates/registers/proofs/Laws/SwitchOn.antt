@@ -11,33 +11,31 @@ use Rattle.geometry.specs.Geometry.{allowed, ringLength, ringOf, slotCount}
 use Rattle.geometry.proofs.Laws.Allowed.{sizes}
 use Rattle.geometry.proofs.Laws.Slots.{few-slots}
 use Rattle.records.specs.Event.{AllFit}
-use Rattle.records.specs.Put.{putRecords, indexAfter, Put}
+use Rattle.records.specs.Put.{Put}
 use Rattle.device.specs.declared.Device.{Device}
 use Rattle.device.specs.declared.Outcome.{Outcome}
-use Rattle.registers.specs.SwitchOn.{takenSlots, startRecords, clearedPointers, switchedOn, switchOn}
+use Rattle.registers.specs.SwitchOn.{takenSlots, startRecords, clearedPointers, switchedOn, WriteResult, started, switchOn}
 use Rattle.registers.proofs.Laws.Slots.{few-taken, slots-fit}
 
 start-count : (geometry : Geometry) (device : Device) → length (startRecords geometry device) ≡ length (takenSlots geometry device) + 1
 start-count geometry device = simp length-map (omega arith)
 
--- what a switch-on promises of its outcome and of the area afterwards
-abbrev pub Promise : Geometry → Device → List ℕ → Bool → Outcome → List ℕ → Type 0
-Promise geometry device area interrupts outcome after =
-    (outcome ≡ switchOn geometry device area interrupts .outcome) × (after ≡ switchOn geometry device area interrupts .area)
+-- what a write leaves is what a definition says
+abbrev pub Leaves : Outcome → List ℕ → WriteResult → Type 0
+Leaves outcome after result = (outcome ≡ result .outcome) × (after ≡ result .area)
 
-module _ (geometry : Geometry) (device : Device) (area : List ℕ) (interrupts : Bool) where
-  pub no-room : {count : ℕ} → count ≡ length (takenSlots geometry device) → ringLength geometry - 1 < count + 1
-      → Promise geometry device area interrupts (record { answer = 7; device = device }) area
+module _ (geometry : Geometry) (device : Device) (area : List ℕ) (interrupts : Bool) {count : ℕ} (counted : count ≡ length (takenSlots geometry device)) where
+  pub no-room : ringLength geometry - 1 < count + 1 → Leaves (record { answer = 7; device = device }) area (switchOn geometry device area interrupts)
   unfolding switchOn
-  no-room e h =
+  no-room h =
       let test = lt-leb (length (startRecords geometry device)) (ringLength geometry - 1) (omega (arith, start-count geometry device)) in
       (rw test, rw test)
 
-  pub room : {count : ℕ} → count ≡ length (takenSlots geometry device) → count + 1 ≤ ringLength geometry - 1
-      → {cleared after : List ℕ} {index : ℕ} {new : Device} → cleared ≡ clearedPointers area → Put (ringOf geometry) 0 (startRecords geometry device) cleared after index
-      → new ≡ switchedOn interrupts index device → Promise geometry device area interrupts (record { answer = 0; device = new }) after
+  pub starts : count + 1 ≤ ringLength geometry - 1 → {cleared after : List ℕ} {index : ℕ} {new : Device} → cleared ≡ clearedPointers area
+      → Put (ringOf geometry) 0 (startRecords geometry device) cleared after index → new ≡ switchedOn interrupts index device
+      → Leaves (record { answer = 0; device = new }) after (switchOn geometry device area interrupts)
   unfolding switchOn
-  room e h clear put d =
+  starts h clear put d =
       let test = le-leb (length (startRecords geometry device)) (ringLength geometry - 1) (omega (arith, start-count geometry device)) in
       (rw (test, d, put .ends), put .holds ∙ rw (test, clear))
 
@@ -51,17 +49,14 @@ module _ (geometry : Geometry) (device : Device) (sized : allowed geometry ≡ t
       omega (arith, start-count geometry device, few-taken (device .taken) 0 (slotCount geometry), few-slots geometry s)
 
   -- so a switch-on is never refused
-  pub always-room : (area : List ℕ) (interrupts : Bool)
-      → Promise geometry device area interrupts
-      (record { answer = 0; device = switchedOn interrupts (indexAfter (ringOf geometry) 0 (startRecords geometry device)) device })
-      (putRecords (ringOf geometry) 0 (startRecords geometry device) (clearedPointers area))
+  pub always-starts : (area : List ℕ) (interrupts : Bool) → switchOn geometry device area interrupts ≡ started geometry device area interrupts
   unfolding switchOn
-  always-room area interrupts =
-      let test = le-leb (length (startRecords geometry device)) (ringLength geometry - 1) start-fits in
-      (rw test, rw test)
+  always-starts area interrupts = rw (le-leb (length (startRecords geometry device)) (ringLength geometry - 1) start-fits)
 
-  -- their numbers are within the widths of an event's fields
+  -- the numbers of its records are within the widths of an event's fields
   pub start-events-fit : AllFit (startRecords geometry device)
   start-events-fit =
-      let s = sizes geometry sized in
-      (record { kind-fits = omega arith; code-fits = omega arith; value-fits = omega arith }, slots-fit (device .taken) 0 (slotCount geometry) (omega (arith, few-slots geometry s)))
+      let s = sizes geometry sized in (
+        record { kind-fits = omega arith; code-fits = omega arith; value-fits = omega arith },
+        slots-fit (device .taken) 0 (slotCount geometry) (omega (arith, few-slots geometry s)),
+      )

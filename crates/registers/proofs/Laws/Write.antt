@@ -15,13 +15,10 @@ use Rattle.registers.specs.declared.Place.{Place}
 use Rattle.registers.specs.declared.Place.the-variants.{Magic, Rev, Control, EventSize, Npages, Acceleration, Isr, ConfSize, ClientRev, ReadPtr, EventArea, EntryPage, Nothing}
 use Rattle.registers.specs.Place.{placeOf}
 use Rattle.registers.specs.Access.{accessAnswer}
-use Rattle.registers.specs.SwitchOn.{WriteResult, switchOn}
+use Rattle.registers.specs.SwitchOn.{switchOn}
 use Rattle.registers.specs.Write.{withControl, doneWith, leaves, controlOf, effectOf, writeOf}
 use Rattle.registers.proofs.Place.{the-type}
-
--- what a write leaves is what a definition says
-abbrev pub Leaves : Outcome → List ℕ → WriteResult → Type 0
-Leaves outcome after result = (outcome ≡ result .outcome) × (after ≡ result .area)
+use Rattle.registers.proofs.Laws.SwitchOn.{Leaves}
 
 -- ---- a write to CONTROL
 

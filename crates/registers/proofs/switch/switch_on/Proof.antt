@@ -3,7 +3,7 @@ use Rattle.geometry.proofs.Laws.Allowed.{sizes}
 use mathlib.Core.Path.{_∙_}
 use native.Mathlib.Omega.{arith}
 use Rattle.registers.proofs.Laws.Slots.{few-taken}
-use Rattle.registers.proofs.Laws.SwitchOn.{no-room, room}
+use Rattle.registers.proofs.Laws.SwitchOn.{no-room, starts}
 use borrow.Author.Needs.{needs}
 use Rattle.registers.proofs.switch.switch_on.Statement.{statement}
 use Rattle.registers.proofs.switch.switch_on.Tie as tie
@@ -42,7 +42,7 @@ same-length : tie.Need-same-length
 same-length c = search needs
 
 returns-2 : tie.Need-returns-2
-returns-2 c = room (c .before .before .before .before .before .before .before .before .before .before .before .before .before .before .before .args .geometry) (c .before .before .before .before .before .before .before .before .before .before .before .before .before .before .before .args .device) (c .before .before .before .before .before .before .before .before .before .before .before .before .before .before .before .args .area .now) (c .before .before .before .before .before .before .before .before .before .before .before .before .before .before .before .args .interrupts) (c .before .before .before .before .before .before .before .before .before .before .before .taken-count .ensures ∙ rw (c .before .before .before .before .before .before .before .before .before .before .before .before .slot-count .ensures)) (rw (c .before .before .before .before .before .before .before .before .before .before .before .before .before .ring-of .ensures) at (c .before .before .before .before .before .before .before .before .before .if1 .left)) (c .before .before .before .before .before .before .before .clear-pointers .ensures) (rw (c .before .before .before .before .before .before .before .before .before .before .before .before .slot-count .ensures, c .before .before .before .before .before .before .before .before .before .before .before .before .before .ring-of .ensures) at (c .before .before .before .put-start .ensures)) (c .switched .ensures)
+returns-2 c = starts (c .before .before .before .before .before .before .before .before .before .before .before .before .before .before .before .args .geometry) (c .before .before .before .before .before .before .before .before .before .before .before .before .before .before .before .args .device) (c .before .before .before .before .before .before .before .before .before .before .before .before .before .before .before .args .area .now) (c .before .before .before .before .before .before .before .before .before .before .before .before .before .before .before .args .interrupts) (c .before .before .before .before .before .before .before .before .before .before .before .taken-count .ensures ∙ rw (c .before .before .before .before .before .before .before .before .before .before .before .before .slot-count .ensures)) (rw (c .before .before .before .before .before .before .before .before .before .before .before .before .before .ring-of .ensures) at (c .before .before .before .before .before .before .before .before .before .if1 .left)) (c .before .before .before .before .before .before .before .clear-pointers .ensures) (rw (c .before .before .before .before .before .before .before .before .before .before .before .before .slot-count .ensures, c .before .before .before .before .before .before .before .before .before .before .before .before .before .ring-of .ensures) at (c .before .before .before .put-start .ensures)) (c .switched .ensures)
 
 pub switch-on-spec : {M : Type 1} → statement M
 switch-on-spec =
