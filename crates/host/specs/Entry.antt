@@ -1,0 +1,22 @@
+-- An entry copied out. C has no part of a lent page to hand back, and a copy can't change while the caller reads it.
+use Prim.Native.Nat.{ℕ}
+use mathlib.Core.Bool.{Bool, not, cond}
+use mathlib.Core.List.{List, _∷_}
+use lib.Dec.{eqb}
+use lib.ListN.{length}
+use Rattle.answers.specs.Answers.{done, invalid}
+use Rattle.answers.specs.Refusals.{firstRefusal}
+use Rattle.geometry.specs.declared.Geometry.{Geometry}
+use Rattle.entries.specs.Entry.{knownLength, entryAt}
+use Rattle.entries.specs.Lookup.{lookupRefusals}
+
+-- The output must have the length of an entry's known bytes: 1 otherwise. Then as for a lookup.
+abbrev pub copyRefusals : Geometry → List ℕ → ℕ → List ℕ → List (Bool × ℕ)
+copyRefusals geometry page slot out = (not (eqb (length out) knownLength), invalid) ∷ lookupRefusals geometry page slot
+
+unfoldable pub copyAnswer : Geometry → List ℕ → ℕ → List ℕ → ℕ
+copyAnswer geometry page slot out = firstRefusal (copyRefusals geometry page slot out)
+
+-- A refusal leaves the output as it was.
+unfoldable pub copiedEntry : Geometry → List ℕ → ℕ → List ℕ → List ℕ
+copiedEntry geometry page slot out = cond (eqb (copyAnswer geometry page slot out) done) (entryAt geometry page slot) out
