@@ -25,13 +25,13 @@ install:
 	rt check listing
 	rt staticlib host
 	mkdir -p $(ROOT)/include $(ROOT)/lib/pkgconfig $(ROOT)/bin
-	cp include/thayarqo.h $(ROOT)/include/thayarqo.h
+	cp include/thayarqo.h include/thayarqo_codes.h $(ROOT)/include
 	cp target/staticlib/libhost.a $(ROOT)/lib/libthayarqo.a
 	sed -e 's|@PREFIX@|$(PREFIX)|' -e 's|@VERSION@|$(VERSION)|' thayarqo.pc.in >$(ROOT)/lib/pkgconfig/thayarqo.pc
 	cp target/bin/listing $(ROOT)/bin/thayarqo-listing
 
 uninstall:
-	rm -f $(ROOT)/include/thayarqo.h $(ROOT)/lib/libthayarqo.a $(ROOT)/lib/pkgconfig/thayarqo.pc $(ROOT)/bin/thayarqo-listing
+	rm -f $(ROOT)/include/thayarqo.h $(ROOT)/include/thayarqo_codes.h $(ROOT)/lib/libthayarqo.a $(ROOT)/lib/pkgconfig/thayarqo.pc $(ROOT)/bin/thayarqo-listing
 
 fmt:
 	rt fmt

@@ -3,7 +3,7 @@
  *
  * Every call answers one of the numbers of enum thayarqo_answer, for any memory, any state and any
  * number that it is given. Nothing outside the lent memory is touched. A refusal changes nothing,
- * but for two exceptions that are named below.
+ * but for three exceptions that are named below.
  *
  * A lent buffer is a pointer and a length in bytes. Buffers of one call don't overlap. A bool is
  * true or false: any other byte in its place is no bool.
@@ -13,6 +13,8 @@
  */
 #ifndef THAYARQO_H
 #define THAYARQO_H
+
+#include "thayarqo_codes.h"
 
 #include <stdbool.h>
 #include <stddef.h>
@@ -40,41 +42,6 @@ enum thayarqo_answer {
     THAYARQO_NOTHING_TO_READ = 11,
     THAYARQO_BAD_SETTING = 12     /* a bad node text, or settings that lack a node */
 };
-
-/* ---- Types and codes of records, by Linux's names ---- */
-
-#ifndef EV_SYN
-#define EV_SYN 0x00
-#define EV_KEY 0x01
-#define EV_REL 0x02
-#define EV_ABS 0x03
-#define SYN_REPORT 0
-#define SYN_MT_REPORT 2
-#define SYN_DROPPED 3
-#define REL_X 0x00
-#define REL_Y 0x01
-#define REL_HWHEEL 0x06
-#define REL_WHEEL 0x08
-#define ABS_X 0x00
-#define ABS_Y 0x01
-#define ABS_PRESSURE 0x18
-#define ABS_MT_SLOT 0x2f
-#define ABS_MT_POSITION_X 0x35
-#define ABS_MT_POSITION_Y 0x36
-#define ABS_MT_TRACKING_ID 0x39
-#define BTN_0 0x100
-#define BTN_LEFT 0x110
-#define BTN_RIGHT 0x111
-#define BTN_MIDDLE 0x112
-#define BTN_TOOL_PEN 0x140
-#define BTN_TOUCH 0x14a
-#endif
-
-/* Records of the device itself, which Linux doesn't know. */
-#define EV_DEV 0x06
-#define DEV_SET 1
-#define DEV_CONF 2
-#define DEV_RESET 3
 
 #define THAYARQO_NO_SLOT UINT32_C(0xFFFFFFFE)
 #define THAYARQO_UNKNOWN_SLOT UINT32_C(0xFFFFFFFF)
@@ -201,6 +168,66 @@ struct thayarqo_copied thayarqo_copy_out(struct thayarqo_geometry geometry, uint
 uint8_t thayarqo_lookup(struct thayarqo_geometry geometry, const uint8_t *page, size_t page_length,
                         uint32_t slot, uint8_t *out, size_t out_length);
 
+/* ---- The keyboard ring ---- */
+
+enum thayarqo_ring_kind {
+    THAYARQO_RING_UNKNOWN = 0,
+    THAYARQO_RING_MOTION = 1,   /* x, y, z */
+    THAYARQO_RING_KEY = 3,      /* pressed, keycode */
+    THAYARQO_RING_POSITION = 4, /* x, y, and the wheel at z */
+    THAYARQO_RING_TOUCH = 5     /* subtype, contact, and what the subtype has */
+};
+
+enum thayarqo_touch {
+    THAYARQO_TOUCH_DOWN = 0, /* x, y */
+    THAYARQO_TOUCH_UP = 1,
+    THAYARQO_TOUCH_MOTION = 2, /* x, y */
+    THAYARQO_TOUCH_SYN = 3,
+    THAYARQO_TOUCH_SHAPE = 4, /* major, minor */
+    THAYARQO_TOUCH_ORIENT = 5 /* orientation */
+};
+
+/* Numbers that an event doesn't have aren't looked at in one that is given, and are 0 in one that is found. */
+struct thayarqo_ring_event {
+    uint8_t kind;    /* enum thayarqo_ring_kind */
+    uint8_t subtype; /* enum thayarqo_touch */
+    uint8_t contact;
+    bool pressed;
+    int32_t x;
+    int32_t y;
+    int32_t z;
+    uint32_t keycode;
+    uint32_t major;
+    uint32_t minor;
+    int16_t orientation;
+};
+
+/* Where answer isn't 0, the event is all 0. */
+struct thayarqo_ring_found {
+    uint8_t answer;
+    struct thayarqo_ring_event event;
+};
+
+/* Writes an event's THAYARQO_RING_EVENT_LENGTH bytes. Answers 1, and 9 for what is unknown. */
+uint8_t thayarqo_ring_encode(uint8_t *out, size_t out_length, struct thayarqo_ring_event event);
+
+/* Reads an event's bytes. Answers 1, 9. A contact is below contact_limit, which is 1 to 32. */
+struct thayarqo_ring_found thayarqo_ring_decode(const uint8_t *bytes, size_t bytes_length, uint32_t contact_limit);
+
+/*
+ * The back end's call: puts an event's bytes in the place of *in_prod. Where it answers 0, *in_prod moves on, and the page's in_prod
+ * with it. Answers 1, 9, 10, 7. Each end keeps its own index and never reads it back from the page. Index 0 has the place of index
+ * 4294967295, whose event must be taken before the next is put.
+ */
+uint8_t thayarqo_ring_put(uint8_t *page, size_t page_length, uint32_t *in_prod, uint32_t contact_limit,
+                          const uint8_t *event, size_t event_length);
+
+/*
+ * The front end's call: takes the event in the place of *in_cons. Where it answers 0, *in_cons moves on, and the page's in_cons with
+ * it. Answers 1, 10, 11, and 9 for a malformed event, which is consumed all the same.
+ */
+struct thayarqo_ring_found thayarqo_ring_take(uint8_t *page, size_t page_length, uint32_t *in_cons, uint32_t contact_limit);
+
 /* ---- Node settings of the keyboard ring ---- */
 
 struct thayarqo_parameter {
@@ -258,6 +285,8 @@ THAYARQO_ASSERT(sizeof(struct thayarqo_value) == 8);
 THAYARQO_ASSERT(sizeof(struct thayarqo_driver) == 268);
 THAYARQO_ASSERT(sizeof(struct thayarqo_told) == 12);
 THAYARQO_ASSERT(sizeof(struct thayarqo_copied) == 8);
+THAYARQO_ASSERT(sizeof(struct thayarqo_ring_event) == 32);
+THAYARQO_ASSERT(sizeof(struct thayarqo_ring_found) == 36);
 THAYARQO_ASSERT(sizeof(struct thayarqo_settings) == 48);
 THAYARQO_ASSERT(sizeof(struct thayarqo_closed) == 28);
 

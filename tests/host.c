@@ -4,49 +4,14 @@
  */
 #include "thayarqo.h"
 
-#include <stdio.h>
-#include <string.h>
+#include "host_case.h"
 
-enum { GUARD = 64, AREA = 4096, PAGE = 4096, ENTRY = 72, RING = 511, SLOT = 4 };
-
-struct buffer {
-    uint8_t before[GUARD];
-    uint8_t bytes[4096];
-    uint8_t after[GUARD];
-};
+enum { AREA = 4096, PAGE = 4096, ENTRY = 72, RING = 511, SLOT = 4 };
 
 static const struct thayarqo_geometry geometry = {1, 8, ENTRY};
 static struct buffer area, page, old_area, old_page;
 static struct thayarqo_device device, old_device;
 static struct thayarqo_driver driver;
-static int broken;
-
-static void check(const char *name, bool right)
-{
-    printf("%s %s%s\n", right ? "ok" : "not ok", name, right ? "" : ": not as expected");
-    broken |= !right;
-}
-
-static void answers(const char *name, unsigned expected, unsigned answer)
-{
-    if (answer != expected)
-        printf("    answered %u instead of %u\n", answer, expected);
-    check(name, answer == expected);
-}
-
-static void fill(struct buffer *buffer, uint8_t inside)
-{
-    memset(buffer, 0xA5, sizeof *buffer);
-    memset(buffer->bytes, inside, sizeof buffer->bytes);
-}
-
-static bool guarded(const struct buffer *buffer)
-{
-    for (int i = 0; i < GUARD; i++)
-        if (buffer->before[i] != 0xA5 || buffer->after[i] != 0xA5)
-            return false;
-    return true;
-}
 
 static void remember(void)
 {
@@ -66,20 +31,6 @@ static bool same_device(void)
         && device.lost == old_device.lost && device.client_rev_written == old_device.client_rev_written
         && device.client_rev == old_device.client_rev && device.write_index == old_device.write_index
         && device.current_slot == old_device.current_slot && device.taken == old_device.taken;
-}
-
-/* ---- words of the pages ---- */
-
-static uint32_t word(const struct buffer *buffer, size_t at)
-{
-    const uint8_t *b = buffer->bytes + at;
-    return b[0] | (uint32_t)b[1] << 8 | (uint32_t)b[2] << 16 | (uint32_t)b[3] << 24;
-}
-
-static void set_word(uint8_t *bytes, size_t at, uint32_t value)
-{
-    for (int i = 0; i < 4; i++)
-        bytes[at + i] = (uint8_t)(value >> 8 * i);
 }
 
 static bool record_is(uint32_t index, uint16_t type, uint16_t code, uint32_t value)

@@ -1,6 +1,7 @@
 // The calls of a host. The device's state stands in one place and is changed there: each call lends it to a rule by value and stores
 // what comes back.
 mod guest;
+mod ring;
 mod settings;
 
 use assembly::Driver;

@@ -59,7 +59,7 @@ fn event_place(index: u32) -> usize
     EVENTS + (index % RING_LENGTH) as usize * EVENT_LENGTH
 }
 
-fn is_contact_limit(limit: u32) -> bool
+pub fn is_contact_limit(limit: u32) -> bool
     ensures { λ r. ⌜ r ≡ isContactLimit limit ⌝ }
 {
     if limit < 1 {

@@ -1,0 +1,118 @@
+-- An event of the keyboard ring as plain numbers. Its kind is the type in its 40 bytes, 0 for what is unknown. Numbers that an event
+-- doesn't have are zero.
+use Prim.Native.Nat.{ℕ}
+use mathlib.Core.Bool.{Bool, false}
+use mathlib.Core.List.{[], _∷_}
+use lib.IntN.{ℤ, pos}
+use Rattle.answers.specs.Answers.{done}
+use Rattle.kbdif_events.specs.declared.RingEvent.{RingEvent}
+use Rattle.kbdif_events.specs.declared.RingEvent.the-variants.{Motion, Key, Pos, TouchDown, TouchUp, TouchMotion, TouchSyn, TouchShape, TouchOrient, Unknown}
+use Rattle.kbdif_decode.specs.Decode.{lookup}
+use Rattle.kbdif_decode.specs.declared.Decoded.{Decoded}
+use Rattle.kbdif_decode.specs.declared.Decoded.the-variants.{Event, Refused}
+use Rattle.ring_numbers.specs.declared.RingNumbers.{RingNumbers}
+use Rattle.ring_numbers.specs.declared.FoundNumbers.{FoundNumbers}
+
+-- A place, or none. The wheel of a position stands at z.
+abbrev pub placeNumbers : ℕ → ℕ → ℕ → ℤ → ℤ → ℤ → RingNumbers
+placeNumbers kind subtype contact x y z = record {
+  kind = kind;
+  subtype = subtype;
+  contact = contact;
+  pressed = false;
+  x = x;
+  y = y;
+  z = z;
+  keycode = 0;
+  major = 0;
+  minor = 0;
+  orientation = pos 0;
+}
+
+abbrev pub noNumbers : RingNumbers
+noNumbers = placeNumbers 0 0 0 (pos 0) (pos 0) (pos 0)
+
+abbrev pub keyNumbers : Bool → ℕ → RingNumbers
+keyNumbers pressed keycode = record {
+  kind = 3;
+  subtype = 0;
+  contact = 0;
+  pressed = pressed;
+  x = pos 0;
+  y = pos 0;
+  z = pos 0;
+  keycode = keycode;
+  major = 0;
+  minor = 0;
+  orientation = pos 0;
+}
+
+abbrev pub shapeNumbers : ℕ → ℕ → ℕ → RingNumbers
+shapeNumbers contact major minor = record {
+  kind = 5;
+  subtype = 4;
+  contact = contact;
+  pressed = false;
+  x = pos 0;
+  y = pos 0;
+  z = pos 0;
+  keycode = 0;
+  major = major;
+  minor = minor;
+  orientation = pos 0;
+}
+
+abbrev pub orientNumbers : ℕ → ℤ → RingNumbers
+orientNumbers contact orientation = record {
+  kind = 5;
+  subtype = 5;
+  contact = contact;
+  pressed = false;
+  x = pos 0;
+  y = pos 0;
+  z = pos 0;
+  keycode = 0;
+  major = 0;
+  minor = 0;
+  orientation = orientation;
+}
+
+unfoldable pub numbersOf : RingEvent → RingNumbers
+numbersOf (Motion x y z) = placeNumbers 1 0 0 x y z
+numbersOf (Key pressed keycode) = keyNumbers pressed keycode
+numbersOf (Pos x y wheel) = placeNumbers 4 0 0 x y wheel
+numbersOf (TouchDown contact x y) = placeNumbers 5 0 contact x y (pos 0)
+numbersOf (TouchUp contact) = placeNumbers 5 1 contact (pos 0) (pos 0) (pos 0)
+numbersOf (TouchMotion contact x y) = placeNumbers 5 2 contact x y (pos 0)
+numbersOf (TouchSyn contact) = placeNumbers 5 3 contact (pos 0) (pos 0) (pos 0)
+numbersOf (TouchShape contact major minor) = shapeNumbers contact major minor
+numbersOf (TouchOrient contact orientation) = orientNumbers contact orientation
+numbersOf Unknown = noNumbers
+
+-- Back: a touch by its subtype, an event by its kind. Another kind or subtype is unknown.
+unfoldable pub touchOf : RingNumbers → RingEvent
+touchOf numbers =
+    lookup (numbers .subtype)
+    ((0, TouchDown (numbers .contact) (numbers .x) (numbers .y))
+    ∷ (1, TouchUp (numbers .contact))
+    ∷ (2, TouchMotion (numbers .contact) (numbers .x) (numbers .y))
+    ∷ (3, TouchSyn (numbers .contact))
+    ∷ (4, TouchShape (numbers .contact) (numbers .major) (numbers .minor))
+    ∷ (5, TouchOrient (numbers .contact) (numbers .orientation))
+    ∷ [])
+    Unknown
+
+unfoldable pub eventOf : RingNumbers → RingEvent
+eventOf numbers =
+    lookup (numbers .kind)
+    ((1, Motion (numbers .x) (numbers .y) (numbers .z))
+    ∷ (3, Key (numbers .pressed) (numbers .keycode))
+    ∷ (4, Pos (numbers .x) (numbers .y) (numbers .z))
+    ∷ (5, touchOf numbers)
+    ∷ [])
+    Unknown
+
+-- What a decode or a take answers, with its number. A refusal has an event of zeros.
+abbrev pub foundOf : Decoded → FoundNumbers
+foundOf (Event event) = record { answer = done; event = numbersOf event }
+foundOf (Refused number) = record { answer = number; event = noNumbers }

@@ -1,0 +1,172 @@
+// Events as numbers, and back.
+use crate::RingNumbers;
+use kbdif_events::DOWN;
+use kbdif_events::KEY;
+use kbdif_events::MOTION;
+use kbdif_events::MOVE;
+use kbdif_events::MTOUCH;
+use kbdif_events::ORIENT;
+use kbdif_events::POS;
+use kbdif_events::RingEvent;
+use kbdif_events::SHAPE;
+use kbdif_events::SYN;
+use kbdif_events::UP;
+ghost use mathlib.Core.Path.{_≡_};
+ghost use Rattle.ring_numbers.specs.Numbers.{noNumbers, placeNumbers, keyNumbers, shapeNumbers, orientNumbers, numbersOf, touchOf, eventOf};
+
+fn place_numbers(kind: u8, subtype: u8, contact: u8, x: i32, y: i32, z: i32) -> RingNumbers
+    ensures { λ r. ⌜ r ≡ placeNumbers kind subtype contact x y z ⌝ }
+{
+    RingNumbers {
+        kind,
+        subtype,
+        contact,
+        pressed: false,
+        x,
+        y,
+        z,
+        keycode: 0,
+        major: 0,
+        minor: 0,
+        orientation: 0,
+    }
+}
+
+pub fn no_numbers() -> RingNumbers
+    ensures { λ r. ⌜ r ≡ noNumbers ⌝ }
+{
+    place_numbers(0, 0, 0, 0, 0, 0)
+}
+
+fn key_numbers(pressed: bool, keycode: u32) -> RingNumbers
+    ensures { λ r. ⌜ r ≡ keyNumbers pressed keycode ⌝ }
+{
+    RingNumbers {
+        kind: KEY,
+        subtype: 0,
+        contact: 0,
+        pressed,
+        x: 0,
+        y: 0,
+        z: 0,
+        keycode,
+        major: 0,
+        minor: 0,
+        orientation: 0,
+    }
+}
+
+fn shape_numbers(contact: u8, major: u32, minor: u32) -> RingNumbers
+    ensures { λ r. ⌜ r ≡ shapeNumbers contact major minor ⌝ }
+{
+    RingNumbers {
+        kind: MTOUCH,
+        subtype: SHAPE,
+        contact,
+        pressed: false,
+        x: 0,
+        y: 0,
+        z: 0,
+        keycode: 0,
+        major,
+        minor,
+        orientation: 0,
+    }
+}
+
+fn orient_numbers(contact: u8, orientation: i16) -> RingNumbers
+    ensures { λ r. ⌜ r ≡ orientNumbers contact orientation ⌝ }
+{
+    RingNumbers {
+        kind: MTOUCH,
+        subtype: ORIENT,
+        contact,
+        pressed: false,
+        x: 0,
+        y: 0,
+        z: 0,
+        keycode: 0,
+        major: 0,
+        minor: 0,
+        orientation,
+    }
+}
+
+pub fn numbers_of(event: RingEvent) -> RingNumbers
+    ensures { λ r. ⌜ r ≡ numbersOf event ⌝ }
+{
+    match event {
+        RingEvent::Motion { x, y, z } => place_numbers(MOTION, 0, 0, x, y, z),
+        RingEvent::Key { pressed, keycode } => key_numbers(pressed, keycode),
+        RingEvent::Pos { x, y, wheel } => place_numbers(POS, 0, 0, x, y, wheel),
+        RingEvent::TouchDown { contact, x, y } => place_numbers(MTOUCH, DOWN, contact, x, y, 0),
+        RingEvent::TouchUp { contact } => place_numbers(MTOUCH, UP, contact, 0, 0, 0),
+        RingEvent::TouchMotion { contact, x, y } => place_numbers(MTOUCH, MOVE, contact, x, y, 0),
+        RingEvent::TouchSyn { contact } => place_numbers(MTOUCH, SYN, contact, 0, 0, 0),
+        RingEvent::TouchShape {
+            contact,
+            major,
+            minor,
+        } => shape_numbers(contact, major, minor),
+        RingEvent::TouchOrient {
+            contact,
+            orientation,
+        } => orient_numbers(contact, orientation),
+        RingEvent::Unknown => no_numbers(),
+    }
+}
+
+fn touch_of(numbers: RingNumbers) -> RingEvent
+    ensures { λ r. ⌜ r ≡ touchOf numbers ⌝ }
+{
+    let subtype = numbers.subtype;
+    let contact = numbers.contact;
+    match subtype {
+        DOWN => RingEvent::TouchDown {
+            contact,
+            x: numbers.x,
+            y: numbers.y,
+        },
+        UP => RingEvent::TouchUp { contact },
+        MOVE => RingEvent::TouchMotion {
+            contact,
+            x: numbers.x,
+            y: numbers.y,
+        },
+        SYN => RingEvent::TouchSyn { contact },
+        SHAPE => RingEvent::TouchShape {
+            contact,
+            major: numbers.major,
+            minor: numbers.minor,
+        },
+        ORIENT => RingEvent::TouchOrient {
+            contact,
+            orientation: numbers.orientation,
+        },
+        _ => RingEvent::Unknown,
+    }
+}
+
+pub fn event_of(numbers: RingNumbers) -> RingEvent
+    ensures { λ r. ⌜ r ≡ eventOf numbers ⌝ }
+{
+    let kind = numbers.kind;
+    match kind {
+        MOTION => RingEvent::Motion {
+            x: numbers.x,
+            y: numbers.y,
+            z: numbers.z,
+        },
+        KEY => RingEvent::Key {
+            pressed: numbers.pressed,
+            keycode: numbers.keycode,
+        },
+        POS => RingEvent::Pos {
+            x: numbers.x,
+            y: numbers.y,
+            wheel: numbers.z,
+        },
+        MTOUCH => touch_of(numbers),
+        _ => RingEvent::Unknown,
+    }
+}
