@@ -1,0 +1,16 @@
+//! The structs have the sizes that the header asserts.
+use crate::*;
+use core::mem::size_of;
+
+const _: () = {
+    assert!(size_of::<Geometry>() == 12);
+    assert!(size_of::<Device>() == 32);
+    assert!(size_of::<Event>() == 8);
+    assert!(size_of::<Packet>() == 264);
+    assert!(size_of::<Value>() == 8);
+    assert!(size_of::<Driver>() == 268);
+    assert!(size_of::<Told>() == 12);
+    assert!(size_of::<Copied>() == 8);
+    assert!(size_of::<Settings>() == 48);
+    assert!(size_of::<Closed>() == 28);
+};

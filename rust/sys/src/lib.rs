@@ -1,0 +1,155 @@
+//! The C interface of the proved library, just as `include/thayarqo.h` has it. That header says of every call what it answers and
+//! what it changes; the crate `thayarqo` wraps the calls safely.
+//!
+//! A lent buffer is a pointer and a length in bytes. Buffers of one call don't overlap.
+#![no_std]
+
+mod calls;
+mod layout;
+
+pub use calls::*;
+
+/// A slot in [`Device`] and [`Driver`]: none.
+pub const NO_SLOT: u32 = 0xFFFF_FFFE;
+/// A slot in [`Driver`]: the guest was told that the source isn't known.
+pub const UNKNOWN_SLOT: u32 = 0xFFFF_FFFF;
+
+/// Bytes of the page of entries.
+pub const ENTRY_PAGE_LENGTH: usize = 4096;
+/// Bytes of an entry that have a meaning.
+pub const KNOWN_ENTRY_LENGTH: usize = 68;
+/// The most events that a packet holds.
+pub const PACKET_EVENTS: usize = 32;
+
+/// The sizes that host and guest agree on.
+#[repr(C)]
+#[derive(Clone, Copy, Debug, PartialEq, Eq)]
+pub struct Geometry {
+    pub pages: u32,
+    pub record_size: u32,
+    pub entry_size: u32,
+}
+
+/// The device's state.
+#[repr(C)]
+#[derive(Clone, Copy, Debug, PartialEq, Eq)]
+pub struct Device {
+    pub on: bool,
+    pub interrupts: bool,
+    pub isr: bool,
+    pub lost: bool,
+    pub client_rev_written: bool,
+    pub client_rev: u32,
+    pub write_index: u32,
+    pub current_slot: u32,
+    pub taken: u64,
+}
+
+/// The first eight bytes of a record.
+#[repr(C)]
+#[derive(Clone, Copy, Debug, Default, PartialEq, Eq)]
+pub struct Event {
+    pub kind: u16,
+    pub code: u16,
+    pub value: u32,
+}
+
+/// A slot and its first `count` events.
+#[repr(C)]
+#[derive(Clone, Copy, Debug, PartialEq, Eq)]
+pub struct Packet {
+    pub slot: u32,
+    pub count: u32,
+    pub events: [Event; 32],
+}
+
+/// What a read answers.
+#[repr(C)]
+#[derive(Clone, Copy, Debug, PartialEq, Eq)]
+pub struct Value {
+    pub answer: u8,
+    pub value: u32,
+}
+
+/// The state of a guest's driver.
+#[repr(C)]
+#[derive(Clone, Copy, Debug, PartialEq, Eq)]
+pub struct Driver {
+    pub slot: u32,
+    pub held: u32,
+    pub events: [Event; 32],
+    pub overlong: bool,
+    pub spoiled: bool,
+    pub ignoring: bool,
+}
+
+/// What a step answers: `what` is one of the `TOLD_` numbers.
+#[repr(C)]
+#[derive(Clone, Copy, Debug, PartialEq, Eq)]
+pub struct Told {
+    pub answer: u8,
+    pub what: u8,
+    pub slot: u32,
+    pub count: u32,
+}
+
+pub const TOLD_NOTHING: u8 = 0;
+pub const TOLD_GAP: u8 = 1;
+pub const TOLD_EMPTY_REPORT: u8 = 2;
+pub const TOLD_PACKET: u8 = 3;
+pub const TOLD_SET: u8 = 4;
+pub const TOLD_CONF: u8 = 5;
+pub const TOLD_RESET: u8 = 6;
+pub const TOLD_RESET_ALL: u8 = 7;
+
+/// What a copy-out answers.
+#[repr(C)]
+#[derive(Clone, Copy, Debug, PartialEq, Eq)]
+pub struct Copied {
+    pub answer: u8,
+    pub count: u32,
+}
+
+/// A numeric node.
+#[repr(C)]
+#[derive(Clone, Copy, Debug, PartialEq, Eq)]
+pub struct Parameter {
+    pub given: bool,
+    pub value: u32,
+}
+
+/// The nodes that have come so far.
+#[repr(C)]
+#[derive(Clone, Copy, Debug, PartialEq, Eq)]
+pub struct Settings {
+    pub feature_disable_keyboard: bool,
+    pub feature_disable_pointer: bool,
+    pub feature_abs_pointer: bool,
+    pub feature_multi_touch: bool,
+    pub feature_raw_pointer: bool,
+    pub request_abs_pointer: bool,
+    pub request_multi_touch: bool,
+    pub request_raw_pointer: bool,
+    pub width: Parameter,
+    pub height: Parameter,
+    pub contacts: Parameter,
+    pub touch_width: Parameter,
+    pub touch_height: Parameter,
+}
+
+/// The modes that settings come to.
+#[repr(C)]
+#[derive(Clone, Copy, Debug, PartialEq, Eq)]
+pub struct Closed {
+    pub answer: u8,
+    pub absolute: bool,
+    pub multi_touch: bool,
+    pub raw: bool,
+    pub disable_keyboard: bool,
+    pub disable_pointer: bool,
+    pub width: u32,
+    pub height: u32,
+    pub contacts: u32,
+    pub touch_width: u32,
+    pub touch_height: u32,
+}
