@@ -61,12 +61,7 @@ extern "C" {
 
     pub fn thayarqo_fresh_driver() -> Driver;
 
-    pub fn thayarqo_step(
-        driver: *mut Driver,
-        geometry: Geometry,
-        area: *mut u8,
-        area_length: usize,
-    ) -> Told;
+    pub fn thayarqo_step(driver: *mut Driver, geometry: Geometry, area: *mut u8, area_length: usize) -> Told;
 
     pub fn thayarqo_copy_out(
         geometry: Geometry,

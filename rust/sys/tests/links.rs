@@ -1,7 +1,5 @@
 //! The library links, and its structs come over whole.
-use thayarqo_sys::{
-    thayarqo_fresh_device, thayarqo_fresh_driver, thayarqo_fresh_settings, NO_SLOT,
-};
+use thayarqo_sys::{thayarqo_fresh_device, thayarqo_fresh_driver, thayarqo_fresh_settings, NO_SLOT};
 
 #[test]
 fn fresh_states_come_over() {

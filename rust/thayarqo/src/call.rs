@@ -1,0 +1,130 @@
+//! The calls of the library over slices: the one place where it is entered. Its proofs hold for any numbers and any lengths, so what
+//! makes these calls sound is that each buffer is a slice and that no two overlap.
+#![allow(unsafe_code)]
+use thayarqo_sys::{self as sys, Closed, Copied, Device, Driver, Geometry, Packet, Settings, Told, Value};
+
+pub fn fresh_device() -> Device {
+    unsafe { sys::thayarqo_fresh_device() }
+}
+
+pub fn read(device: Device, geometry: Geometry, area: &[u8], page: &[u8], offset: u64, width: u32) -> Value {
+    unsafe {
+        sys::thayarqo_read(
+            device,
+            geometry,
+            area.as_ptr(),
+            area.len(),
+            page.as_ptr(),
+            page.len(),
+            offset,
+            width,
+        )
+    }
+}
+
+pub fn write(
+    device: &mut Device,
+    geometry: Geometry,
+    area: &mut [u8],
+    page: &[u8],
+    offset: u64,
+    width: u32,
+    value: u32,
+) -> u8 {
+    let (words, bytes) = (area.as_mut_ptr(), area.len());
+    unsafe {
+        sys::thayarqo_write(
+            device,
+            geometry,
+            words,
+            bytes,
+            page.as_ptr(),
+            page.len(),
+            offset,
+            width,
+            value,
+        )
+    }
+}
+
+pub fn put_packet(device: &mut Device, geometry: Geometry, area: &mut [u8], page: &[u8], packet: Packet) -> u8 {
+    unsafe {
+        sys::thayarqo_put_packet(
+            device,
+            geometry,
+            area.as_mut_ptr(),
+            area.len(),
+            page.as_ptr(),
+            page.len(),
+            packet,
+        )
+    }
+}
+
+pub fn add(device: &mut Device, geometry: Geometry, area: &mut [u8], page: &mut [u8], slot: u32, entry: &[u8]) -> u8 {
+    let (from, length) = (entry.as_ptr(), entry.len());
+    unsafe {
+        sys::thayarqo_add(
+            device,
+            geometry,
+            area.as_mut_ptr(),
+            area.len(),
+            page.as_mut_ptr(),
+            page.len(),
+            slot,
+            from,
+            length,
+        )
+    }
+}
+
+pub fn remove(device: &mut Device, geometry: Geometry, area: &mut [u8], page: &mut [u8], slot: u32) -> u8 {
+    unsafe {
+        sys::thayarqo_remove(
+            device,
+            geometry,
+            area.as_mut_ptr(),
+            area.len(),
+            page.as_mut_ptr(),
+            page.len(),
+            slot,
+        )
+    }
+}
+
+pub fn fresh_driver() -> Driver {
+    unsafe { sys::thayarqo_fresh_driver() }
+}
+
+pub fn step(driver: &mut Driver, geometry: Geometry, area: &mut [u8]) -> Told {
+    unsafe { sys::thayarqo_step(driver, geometry, area.as_mut_ptr(), area.len()) }
+}
+
+pub fn copy_out(geometry: Geometry, area: &mut [u8], limit: u32, out: &mut [u8]) -> Copied {
+    unsafe {
+        sys::thayarqo_copy_out(
+            geometry,
+            area.as_mut_ptr(),
+            area.len(),
+            limit,
+            out.as_mut_ptr(),
+            out.len(),
+        )
+    }
+}
+
+pub fn lookup(geometry: Geometry, page: &[u8], slot: u32, out: &mut [u8]) -> u8 {
+    unsafe { sys::thayarqo_lookup(geometry, page.as_ptr(), page.len(), slot, out.as_mut_ptr(), out.len()) }
+}
+
+pub fn fresh_settings() -> Settings {
+    unsafe { sys::thayarqo_fresh_settings() }
+}
+
+pub fn node(settings: &mut Settings, name: &[u8], value: &[u8]) -> u8 {
+    unsafe { sys::thayarqo_node(settings, name.as_ptr(), name.len(), value.as_ptr(), value.len()) }
+}
+
+pub fn close(settings: Settings) -> Closed {
+    unsafe { sys::thayarqo_close(settings) }
+}

@@ -1,0 +1,164 @@
+//! The host's end of a device.
+use crate::call;
+use crate::entry::Entry;
+use crate::event::Packet;
+use crate::geometry::{Geometry, PAGE_LENGTH};
+use crate::refusal::{Answer, Refusal};
+use crate::words;
+use thayarqo_sys as sys;
+
+/// A device with pages of its own: its state, the event area and the entry page.
+///
+/// A guest in the same program reads the pages through a [`Driver`](crate::Driver), which is lent [`Device::area_mut`].
+#[derive(Clone, Debug, PartialEq, Eq)]
+pub struct Device {
+    geometry: Geometry,
+    state: sys::Device,
+    area: Vec<u8>,
+    page: Vec<u8>,
+}
+
+impl Device {
+    /// A device that is off, with no slot taken and pages of zeros.
+    pub fn new(geometry: Geometry) -> Device {
+        Device {
+            geometry,
+            state: call::fresh_device(),
+            area: vec![0; geometry.area_length()],
+            page: vec![0; PAGE_LENGTH],
+        }
+    }
+
+    /// Reads a register, or a word of the pages, for the guest. Every width but 4 is refused.
+    pub fn read(&self, offset: u64, width: u32) -> Answer<u32> {
+        let found = call::read(
+            self.state,
+            self.geometry.numbers(),
+            &self.area,
+            &self.page,
+            offset,
+            width,
+        );
+        Refusal::check(found.answer).map(|()| found.value)
+    }
+
+    /// Writes a register, or READ_PTR, for the guest. A switch-on clears the pointers and puts the first records: that all slots
+    /// are reset, and which ones are taken.
+    pub fn write(&mut self, offset: u64, width: u32, value: u32) -> Answer<()> {
+        let geometry = self.geometry.numbers();
+        Refusal::check(call::write(
+            &mut self.state,
+            geometry,
+            &mut self.area,
+            &self.page,
+            offset,
+            width,
+            value,
+        ))
+    }
+
+    /// Puts a packet whole, or not at all. [`Refusal::NoRoom`] and [`Refusal::BadIndex`] set the lost mark: the guest is told of a
+    /// gap before the next packet that is put.
+    pub fn put_packet(&mut self, packet: &Packet) -> Answer<()> {
+        let geometry = self.geometry.numbers();
+        Refusal::check(call::put_packet(
+            &mut self.state,
+            geometry,
+            &mut self.area,
+            &self.page,
+            packet.numbers(),
+        ))
+    }
+
+    /// Takes a slot, and tells the guest while the device is on.
+    pub fn add(&mut self, slot: u32, entry: &Entry) -> Answer<()> {
+        let mut bytes = vec![0; self.geometry.entry_size() as usize];
+        bytes[..entry.bytes().len()].copy_from_slice(entry.bytes());
+        self.add_bytes(slot, &bytes)
+    }
+
+    /// Takes a slot with an entry of just [`Geometry::entry_size`] bytes, all of which are stored.
+    pub fn add_bytes(&mut self, slot: u32, entry: &[u8]) -> Answer<()> {
+        let geometry = self.geometry.numbers();
+        Refusal::check(call::add(
+            &mut self.state,
+            geometry,
+            &mut self.area,
+            &mut self.page,
+            slot,
+            entry,
+        ))
+    }
+
+    /// Frees a slot, zeroes its entry, and tells the guest while the device is on.
+    pub fn remove(&mut self, slot: u32) -> Answer<()> {
+        let geometry = self.geometry.numbers();
+        Refusal::check(call::remove(
+            &mut self.state,
+            geometry,
+            &mut self.area,
+            &mut self.page,
+            slot,
+        ))
+    }
+
+    /// The sizes.
+    pub fn geometry(&self) -> Geometry {
+        self.geometry
+    }
+
+    /// The event area.
+    pub fn area(&self) -> &[u8] {
+        &self.area
+    }
+
+    /// The event area, as the guest may write it: the device takes READ_PTR from it, and trusts no other byte.
+    pub fn area_mut(&mut self) -> &mut [u8] {
+        &mut self.area
+    }
+
+    /// The entry page.
+    pub fn page(&self) -> &[u8] {
+        &self.page
+    }
+
+    /// Whether the guest has switched the device on.
+    pub fn is_on(&self) -> bool {
+        self.state.on
+    }
+
+    /// Whether the device has an interrupt pending.
+    pub fn has_interrupt(&self) -> bool {
+        self.state.isr
+    }
+
+    /// Whether a packet was lost since the last one that was put.
+    pub fn has_lost(&self) -> bool {
+        self.state.lost
+    }
+
+    /// Whether a slot is taken.
+    pub fn is_taken(&self, slot: u32) -> bool {
+        slot < u64::BITS && self.state.taken >> slot & 1 == 1
+    }
+
+    /// The slot that the guest takes events to be of.
+    pub fn current_slot(&self) -> Option<u32> {
+        Some(self.state.current_slot).filter(|slot| *slot != sys::NO_SLOT)
+    }
+
+    /// The index of the next record, which the device trusts instead of WRITE_PTR.
+    pub fn write_index(&self) -> u32 {
+        self.state.write_index
+    }
+
+    /// READ_PTR as the event area has it.
+    pub fn read_pointer(&self) -> u32 {
+        words::get(&self.area, 0)
+    }
+
+    /// Stores READ_PTR in the event area, as a guest does.
+    pub fn set_read_pointer(&mut self, index: u32) {
+        words::set(&mut self.area, 0, index);
+    }
+}

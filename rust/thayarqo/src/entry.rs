@@ -1,0 +1,83 @@
+//! Device entries: what a slot is called, and which events it offers.
+use crate::codes::{BTN_0, EV_ABS, EV_KEY, EV_REL, EV_SYN};
+use thayarqo_sys as sys;
+
+/// Bytes of an entry that have a meaning.
+pub const KNOWN_ENTRY_LENGTH: usize = sys::KNOWN_ENTRY_LENGTH;
+
+/// Bytes of a name.
+pub const NAME_LENGTH: usize = 40;
+
+const EVBITS: usize = 40;
+const ABSBITS: usize = 44;
+const BTNBITS: usize = 56;
+
+/// The entry of a slot.
+///
+/// ```
+/// use thayarqo::codes::{BTN_LEFT, BTN_RIGHT};
+/// use thayarqo::Entry;
+///
+/// let mouse = Entry::new("mouse").offer_rel().offer_key(BTN_LEFT).offer_key(BTN_RIGHT);
+/// assert_eq!(mouse.name(), b"mouse");
+/// ```
+#[derive(Clone, Copy, Debug, PartialEq, Eq)]
+pub struct Entry([u8; KNOWN_ENTRY_LENGTH]);
+
+impl Entry {
+    /// An entry that offers packets, but no event yet. The name is cut after [`NAME_LENGTH`] bytes.
+    pub fn new(name: &str) -> Entry {
+        let mut entry = Entry([0; KNOWN_ENTRY_LENGTH]);
+        let length = name.len().min(NAME_LENGTH);
+        entry.0[..length].copy_from_slice(&name.as_bytes()[..length]);
+        entry.offer(EV_SYN)
+    }
+
+    /// With movements, of any code.
+    pub fn offer_rel(self) -> Entry {
+        self.offer(EV_REL)
+    }
+
+    /// With positions of a code, below 64. Another code can't be offered: it changes nothing.
+    pub fn offer_abs(self, code: u16) -> Entry {
+        if code >= 64 {
+            return self;
+        }
+        self.offer(EV_ABS).with_bit(ABSBITS, code)
+    }
+
+    /// With a button, from `BTN_0` to 0x15F. Another code can't be offered: it changes nothing.
+    pub fn offer_key(self, code: u16) -> Entry {
+        if !(BTN_0..BTN_0 + 96).contains(&code) {
+            return self;
+        }
+        self.offer(EV_KEY).with_bit(BTNBITS, code - BTN_0)
+    }
+
+    fn offer(self, kind: u16) -> Entry {
+        self.with_bit(EVBITS, kind)
+    }
+
+    /// Bits are counted through little-endian words, so through the bytes.
+    fn with_bit(mut self, place: usize, bit: u16) -> Entry {
+        self.0[place + usize::from(bit / 8)] |= 1 << (bit % 8);
+        self
+    }
+
+    /// The name, without the zeros that fill it up.
+    pub fn name(&self) -> &[u8] {
+        let name = &self.0[..NAME_LENGTH];
+        let length = name.iter().position(|byte| *byte == 0);
+        &name[..length.unwrap_or(NAME_LENGTH)]
+    }
+
+    /// The bytes as they stand in the entry page.
+    pub fn bytes(&self) -> &[u8; KNOWN_ENTRY_LENGTH] {
+        &self.0
+    }
+
+    /// The entry of bytes from an entry page.
+    pub fn of_bytes(bytes: [u8; KNOWN_ENTRY_LENGTH]) -> Entry {
+        Entry(bytes)
+    }
+}
