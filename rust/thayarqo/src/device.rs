@@ -9,7 +9,8 @@ use thayarqo_sys as sys;
 
 /// A device with pages of its own: its state, the event area and the entry page.
 ///
-/// A guest in the same program reads the pages through a [`Driver`](crate::Driver), which is lent [`Device::area_mut`].
+/// A guest in the same program reads the pages through a [`Driver`](crate::Driver), which is lent [`Device::area_mut`]. For a guest
+/// that runs at the same time see [`live`](crate::live).
 #[derive(Clone, Debug, PartialEq, Eq)]
 pub struct Device {
     geometry: Geometry,

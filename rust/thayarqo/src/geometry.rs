@@ -75,6 +75,16 @@ impl Geometry {
         PAGE_LENGTH as u32 / self.entry_size
     }
 
+    /// Where a record begins in the event area, by its index in the ring.
+    pub(crate) fn record_place(self, index: u32) -> usize {
+        (index + 1) as usize * self.record_size as usize
+    }
+
+    /// Where a slot's entry begins in the entry page.
+    pub(crate) fn entry_place(self, slot: u32) -> usize {
+        slot as usize * self.entry_size as usize
+    }
+
     pub(crate) fn numbers(self) -> sys::Geometry {
         sys::Geometry {
             pages: self.pages,

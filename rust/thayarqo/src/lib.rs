@@ -29,7 +29,8 @@
 //! # Ok::<(), Refusal>(())
 //! ```
 //!
-//! The proofs are about calls one after another: a page changes by these calls only.
+//! The proofs are about calls one after another: a page changes by these calls only. For a guest that runs at the same time, and may
+//! write its pages at any moment, there is the module [`live`].
 #![deny(missing_docs, unsafe_code)]
 
 mod call;
@@ -39,6 +40,7 @@ mod driver;
 mod entry;
 mod event;
 mod geometry;
+pub mod live;
 mod refusal;
 pub mod register;
 mod settings;

@@ -1,0 +1,32 @@
+//! Guests that run at the same time.
+//!
+//! The proofs say what calls do when nobody else writes the pages meanwhile. A running guest can write its pages at any moment, so
+//! here each end keeps pages of its own that nobody else sees, and a call goes:
+//!
+//! 1. load the other end's index, once, into the own page;
+//! 2. copy in the records that are about to be read (the reading end alone);
+//! 3. run the proved call on the own pages;
+//! 4. copy out the bytes that it wrote (the writing end alone);
+//! 5. publish the own index.
+//!
+//! Indices are loaded with acquire and published with release ordering, so a record is seen whole once it is announced, and isn't
+//! overwritten before its reader has let go of it. A guest that scribbles over its pages can make the host answer
+//! [`BadIndex`](crate::Refusal::BadIndex) or [`NoRoom`](crate::Refusal::NoRoom) by its read pointer, and changes nothing else but
+//! what it reads itself.
+mod device;
+mod driver;
+mod shared;
+
+pub use device::LiveDevice;
+pub use driver::LiveDriver;
+pub use shared::Shared;
+
+/// Where READ_PTR and WRITE_PTR stand in the event area.
+const READ_PTR: usize = 0;
+const WRITE_PTR: usize = 4;
+
+/// A WRITE_PTR that no geometry allows: a driver reads nothing while it stands.
+const CLOSED: u32 = u32::MAX;
+
+/// Bytes of a record that the device writes.
+const RECORD_LENGTH: usize = 8;

@@ -1,0 +1,125 @@
+//! The host's end of a device with a running guest.
+use super::{Shared, CLOSED, READ_PTR, RECORD_LENGTH, WRITE_PTR};
+use crate::device::Device;
+use crate::entry::Entry;
+use crate::event::Packet;
+use crate::geometry::{Geometry, PAGE_LENGTH};
+use crate::refusal::{Answer, Refusal};
+use crate::register;
+use std::sync::atomic::{fence, Ordering};
+
+/// A device whose event area and entry page are shared with a running guest. Its calls are those of [`Device`].
+#[derive(Debug)]
+pub struct LiveDevice<'a> {
+    device: Device,
+    area: Shared<'a>,
+    page: Shared<'a>,
+}
+
+impl<'a> LiveDevice<'a> {
+    /// A device that is off, with no slot taken. Zeroes the shared pages; [`Refusal::Invalid`] where they have another length.
+    pub fn new(geometry: Geometry, area: Shared<'a>, page: Shared<'a>) -> Answer<LiveDevice<'a>> {
+        if area.length() != geometry.area_length() || page.length() != PAGE_LENGTH {
+            return Err(Refusal::Invalid);
+        }
+        let device = Device::new(geometry);
+        area.copy_out(0, device.area());
+        page.copy_out(0, device.page());
+        Ok(LiveDevice { device, area, page })
+    }
+
+    /// See [`Device::read`]. A word of the pages is the host's own, whatever the guest has written there; READ_PTR is the guest's.
+    pub fn read(&mut self, offset: u64, width: u32) -> Answer<u32> {
+        self.fetch();
+        self.device.read(offset, width)
+    }
+
+    /// See [`Device::write`].
+    pub fn write(&mut self, offset: u64, width: u32, value: u32) -> Answer<()> {
+        self.fetch();
+        let was_on = self.device.is_on();
+        self.device.write(offset, width, value)?;
+        if offset == register::READ_PTR {
+            self.area.store(READ_PTR, value, Ordering::Release);
+        }
+        if self.device.is_on() && !was_on {
+            self.publish_restart();
+        }
+        Ok(())
+    }
+
+    /// See [`Device::put_packet`].
+    pub fn put_packet(&mut self, packet: &Packet) -> Answer<()> {
+        self.fetch();
+        let first = self.device.write_index();
+        self.device.put_packet(packet)?;
+        self.publish_records(first);
+        Ok(())
+    }
+
+    /// See [`Device::add`].
+    pub fn add(&mut self, slot: u32, entry: &Entry) -> Answer<()> {
+        self.plug(slot, |device| device.add(slot, entry))
+    }
+
+    /// See [`Device::add_bytes`].
+    pub fn add_bytes(&mut self, slot: u32, entry: &[u8]) -> Answer<()> {
+        self.plug(slot, |device| device.add_bytes(slot, entry))
+    }
+
+    /// See [`Device::remove`].
+    pub fn remove(&mut self, slot: u32) -> Answer<()> {
+        self.plug(slot, |device| device.remove(slot))
+    }
+
+    /// The device as the host sees it, with the read pointer of the last call.
+    pub fn device(&self) -> &Device {
+        &self.device
+    }
+
+    /// Acquire: what the guest has read may be overwritten.
+    fn fetch(&mut self) {
+        let index = self.area.load(READ_PTR, Ordering::Acquire);
+        self.device.set_read_pointer(index);
+    }
+
+    /// The entry comes before the record that tells of it.
+    fn plug(&mut self, slot: u32, call: impl FnOnce(&mut Device) -> Answer<()>) -> Answer<()> {
+        self.fetch();
+        let first = self.device.write_index();
+        call(&mut self.device)?;
+        let geometry = self.device.geometry();
+        let start = geometry.entry_place(slot);
+        let end = start + geometry.entry_size() as usize;
+        self.page.copy_out(start, &self.device.page()[start..end]);
+        self.publish_records(first);
+        Ok(())
+    }
+
+    /// Copies out the records from the first one to the write index, and then announces them.
+    fn publish_records(&self, first: u32) {
+        let last = self.device.write_index();
+        let geometry = self.device.geometry();
+        let mut index = first;
+        while index != last {
+            let place = geometry.record_place(index);
+            self.area
+                .copy_out(place, &self.device.area()[place..place + RECORD_LENGTH]);
+            index = (index + 1) % geometry.ring_length();
+        }
+        if first != last {
+            self.area.store(WRITE_PTR, last, Ordering::Release);
+        }
+    }
+
+    /// A switch-on changes both pointers, and there is no way to store them at once: with only one of them new, old records would
+    /// look unread. So WRITE_PTR first becomes impossible, which keeps a driver that reads meanwhile from reading anything; the
+    /// fence has that seen before what follows. Then READ_PTR and the first records, in any order, and last the new WRITE_PTR, which
+    /// tells that all this is in place.
+    fn publish_restart(&self) {
+        self.area.store(WRITE_PTR, CLOSED, Ordering::Relaxed);
+        fence(Ordering::Release);
+        self.area.store(READ_PTR, 0, Ordering::Relaxed);
+        self.publish_records(0);
+    }
+}

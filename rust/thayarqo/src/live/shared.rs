@@ -1,0 +1,64 @@
+//! Memory that others read and write at any moment.
+use std::fmt;
+use std::sync::atomic::{AtomicU32, Ordering};
+
+/// Memory that is shared with a running guest, in words. All accesses are atomic.
+#[derive(Clone, Copy)]
+pub struct Shared<'a>(&'a [AtomicU32]);
+
+impl<'a> Shared<'a> {
+    /// Words that this program shares between its threads.
+    pub fn new(words: &'a [AtomicU32]) -> Shared<'a> {
+        Shared(words)
+    }
+
+    /// Words of a mapping, as `mmap` hands it out.
+    ///
+    /// # Safety
+    ///
+    /// `start` is a multiple of 4, and `words` words from there can be read and written for all of `'a`. This program accesses them
+    /// in no other way than by atomic words meanwhile. What other programs and guests do there is up to them.
+    #[allow(unsafe_code)]
+    pub unsafe fn from_raw(start: *mut u32, words: usize) -> Shared<'a> {
+        Shared(unsafe { std::slice::from_raw_parts(start.cast(), words) })
+    }
+
+    /// Bytes of this memory.
+    pub fn length(self) -> usize {
+        4 * self.0.len()
+    }
+
+    /// The little-endian word at a place, which is a multiple of 4 as all places here.
+    pub(super) fn load(self, place: usize, order: Ordering) -> u32 {
+        u32::from_le(self.0[place / 4].load(order))
+    }
+
+    pub(super) fn store(self, place: usize, word: u32, order: Ordering) {
+        self.0[place / 4].store(word.to_le(), order);
+    }
+
+    /// Replaces a word with release ordering, unless it has been changed meanwhile.
+    pub(super) fn advance(self, place: usize, from: u32, to: u32) {
+        let word = &self.0[place / 4];
+        let _ = word.compare_exchange(from.to_le(), to.to_le(), Ordering::Release, Ordering::Relaxed);
+    }
+
+    pub(super) fn copy_in(self, place: usize, bytes: &mut [u8]) {
+        for (word, four) in self.0[place / 4..].iter().zip(bytes.chunks_exact_mut(4)) {
+            four.copy_from_slice(&word.load(Ordering::Relaxed).to_ne_bytes());
+        }
+    }
+
+    pub(super) fn copy_out(self, place: usize, bytes: &[u8]) {
+        for (word, four) in self.0[place / 4..].iter().zip(bytes.chunks_exact(4)) {
+            let four = four.try_into().expect("chunks of four");
+            word.store(u32::from_ne_bytes(four), Ordering::Relaxed);
+        }
+    }
+}
+
+impl fmt::Debug for Shared<'_> {
+    fn fmt(&self, out: &mut fmt::Formatter) -> fmt::Result {
+        write!(out, "Shared({} bytes)", self.length())
+    }
+}

@@ -1,0 +1,169 @@
+//! A guest that writes its pages at any moment: the host's state is what the read pointers alone make of it.
+mod common;
+
+use common::{Chance, Guarded, Mark};
+use std::sync::atomic::{AtomicU32, Ordering};
+use std::thread;
+use thayarqo::codes::REL_X;
+use thayarqo::live::{LiveDevice, LiveDriver};
+use thayarqo::register::{CLIENT_REV, CONTROL, CONTROL_ON, ISR, READ_PTR};
+use thayarqo::{Answer, Device, Entry, Event, Geometry, Packet, Refusal};
+
+const CALLS: u32 = 300_000;
+
+/// The host goes on until the guest and the scribbler have had so many rounds each.
+const ROUNDS: u32 = 2000;
+
+fn mouse() -> Entry {
+    Entry::new("mouse").offer_rel()
+}
+
+/// A host with a reference beside it, which nobody can scribble on.
+struct Host<'a> {
+    live: LiveDevice<'a>,
+    reference: Device,
+    accepted: u32,
+    refused: u32,
+}
+
+impl Host<'_> {
+    /// The same call on both. The reference is given the read pointer that the live one has loaded.
+    fn call(
+        &mut self,
+        live: impl FnOnce(&mut LiveDevice) -> Answer<()>,
+        reference: impl FnOnce(&mut Device) -> Answer<()>,
+    ) {
+        let answer = live(&mut self.live);
+        self.reference.set_read_pointer(self.live.device().read_pointer());
+        assert_eq!(answer, reference(&mut self.reference));
+        assert!(*self.live.device() == self.reference, "the states differ");
+        match answer {
+            Ok(()) => self.accepted += 1,
+            Err(Refusal::NoRoom | Refusal::BadIndex) => self.refused += 1,
+            Err(refusal) => panic!("{refusal}"),
+        }
+    }
+
+    fn put(&mut self, slot: u32, count: u32) {
+        let packet = Packet::new(slot, &vec![Event::rel(REL_X, 1); count as usize]).expect("1 to 32 events");
+        self.call(|live| live.put_packet(&packet), |device| device.put_packet(&packet));
+    }
+
+    fn plug(&mut self, slot: u32) {
+        if self.reference.is_taken(slot) {
+            self.call(|live| live.remove(slot), |device| device.remove(slot));
+        } else {
+            self.call(|live| live.add(slot, &mouse()), |device| device.add(slot, &mouse()));
+        }
+    }
+
+    fn write(&mut self, offset: u64, value: u32) {
+        self.call(
+            |live| live.write(offset, 4, value),
+            |device| device.write(offset, 4, value),
+        );
+    }
+
+    fn run(&mut self, chance: &mut Chance) {
+        match chance.below(100) {
+            0..80 => self.put(1, 1 + chance.below(32)),
+            80..90 => self.plug(2 + chance.below(50)),
+            90..95 => self.write(READ_PTR, chance.below(600)),
+            95..97 => self.write(ISR, 1),
+            97..98 => self.write(CONTROL, 0),
+            _ => self.write(CLIENT_REV, 2),
+        }
+        if !self.reference.is_on() {
+            self.write(CONTROL, CONTROL_ON);
+        }
+    }
+}
+
+#[derive(Default)]
+struct Marks {
+    host_is_done: Mark,
+    guest_has_run: Mark,
+    scribbler_has_run: Mark,
+}
+
+impl Marks {
+    /// Rounds until the host is done; sets a mark once they are many.
+    fn go_round(&self, has_run: &Mark, mut round: impl FnMut()) {
+        let mut rounds = 0;
+        while !self.host_is_done.is_set() {
+            round();
+            rounds += 1;
+            if rounds == ROUNDS {
+                has_run.set();
+            }
+        }
+    }
+}
+
+fn run_guest(mut driver: LiveDriver, marks: &Marks) {
+    let mut chance = Chance(77);
+    let mut out = [0; 80];
+    marks.go_round(&marks.guest_has_run, || match chance.below(10) {
+        0 => assert!(matches!(driver.lookup(chance.below(70)), Ok(_) | Err(Refusal::BadSlot))),
+        1 => assert!(matches!(
+            driver.copy_out(chance.below(20), &mut out),
+            Ok(0..=10) | Err(Refusal::BadIndex | Refusal::NothingToRead)
+        )),
+        _ => assert!(matches!(
+            driver.step(),
+            Ok(_) | Err(Refusal::Malformed | Refusal::BadIndex | Refusal::NothingToRead)
+        )),
+    });
+}
+
+/// Any word, any number; the pointers more often than others, so that they are possible now and then.
+fn scribble(area: &[AtomicU32], page: &[AtomicU32], marks: &Marks) {
+    let mut chance = Chance(99);
+    marks.go_round(&marks.scribbler_has_run, || {
+        for _ in 0..32 {
+            let place = chance.next() as usize;
+            area[place % area.len()].store(chance.next(), Ordering::Relaxed);
+            page[place % page.len()].store(chance.next(), Ordering::Relaxed);
+        }
+        area[chance.below(2) as usize].store(chance.below(520), Ordering::Relaxed);
+        thread::yield_now();
+    });
+}
+
+fn run_host(host: &mut Host, marks: &Marks) {
+    host.plug(1);
+    host.write(CLIENT_REV, 2);
+    host.write(CONTROL, CONTROL_ON);
+    let mut chance = Chance(55);
+    for _ in 0..CALLS {
+        host.run(&mut chance);
+    }
+    while !marks.guest_has_run.is_set() || !marks.scribbler_has_run.is_set() {
+        host.run(&mut chance);
+        thread::yield_now();
+    }
+}
+
+#[test]
+fn scribbling_changes_nothing_but_what_the_guest_reads() -> Answer<()> {
+    let geometry = Geometry::new(1, 8, 72)?;
+    let pages = Guarded::pages(geometry);
+    let live = LiveDevice::new(geometry, pages.shared(0), pages.shared(1))?;
+    let driver = LiveDriver::new(geometry, pages.shared(0), pages.shared(1))?;
+    let reference = live.device().clone();
+    let mut host = Host {
+        live,
+        reference,
+        accepted: 0,
+        refused: 0,
+    };
+    let marks = Marks::default();
+    thread::scope(|scope| {
+        scope.spawn(|| marks.guest_has_run.after(|| run_guest(driver, &marks)));
+        scope.spawn(|| scribble(pages.words(0), pages.words(1), &marks));
+        marks.host_is_done.after(|| run_host(&mut host, &marks));
+    });
+    assert!(host.accepted > 1000 && host.refused > 1000);
+    assert!(pages.is_whole());
+    Ok(())
+}
