@@ -15,6 +15,8 @@
 //! what it reads itself.
 mod device;
 mod driver;
+#[cfg(test)]
+mod interleaving;
 mod shared;
 
 pub use device::LiveDevice;

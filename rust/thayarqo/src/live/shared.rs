@@ -28,31 +28,43 @@ impl<'a> Shared<'a> {
         4 * self.0.len()
     }
 
-    /// The little-endian word at a place, which is a multiple of 4 as all places here.
+    /// The word at a place in bytes, which is a multiple of 4. Every access comes by here.
+    fn word(self, place: usize) -> &'a AtomicU32 {
+        #[cfg(test)]
+        super::interleaving::pause();
+        &self.0[place / 4]
+    }
+
+    /// The little-endian number at a place.
     pub(super) fn load(self, place: usize, order: Ordering) -> u32 {
-        u32::from_le(self.0[place / 4].load(order))
+        u32::from_le(self.word(place).load(order))
     }
 
-    pub(super) fn store(self, place: usize, word: u32, order: Ordering) {
-        self.0[place / 4].store(word.to_le(), order);
+    pub(super) fn store(self, place: usize, number: u32, order: Ordering) {
+        self.word(place).store(number.to_le(), order);
     }
 
-    /// Replaces a word with release ordering, unless it has been changed meanwhile.
+    /// Replaces a number with release ordering, unless it has been changed meanwhile.
     pub(super) fn advance(self, place: usize, from: u32, to: u32) {
-        let word = &self.0[place / 4];
-        let _ = word.compare_exchange(from.to_le(), to.to_le(), Ordering::Release, Ordering::Relaxed);
+        let (from, to) = (from.to_le(), to.to_le());
+        let _ = self
+            .word(place)
+            .compare_exchange(from, to, Ordering::Release, Ordering::Relaxed);
     }
 
+    /// Copies whole words from a place.
     pub(super) fn copy_in(self, place: usize, bytes: &mut [u8]) {
-        for (word, four) in self.0[place / 4..].iter().zip(bytes.chunks_exact_mut(4)) {
-            four.copy_from_slice(&word.load(Ordering::Relaxed).to_ne_bytes());
+        for (index, four) in bytes.chunks_exact_mut(4).enumerate() {
+            let word = self.word(place + 4 * index).load(Ordering::Relaxed);
+            four.copy_from_slice(&word.to_ne_bytes());
         }
     }
 
+    /// Copies whole words to a place.
     pub(super) fn copy_out(self, place: usize, bytes: &[u8]) {
-        for (word, four) in self.0[place / 4..].iter().zip(bytes.chunks_exact(4)) {
-            let four = four.try_into().expect("chunks of four");
-            word.store(u32::from_ne_bytes(four), Ordering::Relaxed);
+        for (index, four) in bytes.chunks_exact(4).enumerate() {
+            let word = u32::from_ne_bytes(four.try_into().expect("chunks of four"));
+            self.word(place + 4 * index).store(word, Ordering::Relaxed);
         }
     }
 }
