@@ -19,6 +19,15 @@ not_ok() { # NAME WHY
     broken=1
 }
 
+has() { command -v "$1" >/dev/null 2>&1; }
+
+# A step whose messages matter only where it fails.
+step() { # NAME COMMAND...
+    name=$1
+    shift
+    if "$@" >"$scratch/said" 2>&1; then ok "$name"; else not_ok "$name" 'the command failed' <"$scratch/said"; false; fi
+}
+
 # Writes standard input to a file, whose folder need not be there yet.
 put() { # FILE
     mkdir -p "$(dirname "$1")"
