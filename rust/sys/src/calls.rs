@@ -1,5 +1,5 @@
 //! The functions, in the header's order.
-use crate::{Closed, Copied, Device, Driver, Geometry, Packet, Settings, Told, Value};
+use crate::{Closed, Copied, Device, Driver, Geometry, Packet, RingEvent, RingFound, Settings, Told, Value};
 
 extern "C" {
     pub fn thayarqo_fresh_device() -> Device;
@@ -80,6 +80,21 @@ extern "C" {
         out: *mut u8,
         out_length: usize,
     ) -> u8;
+
+    pub fn thayarqo_ring_encode(out: *mut u8, out_length: usize, event: RingEvent) -> u8;
+
+    pub fn thayarqo_ring_decode(bytes: *const u8, bytes_length: usize, contact_limit: u32) -> RingFound;
+
+    pub fn thayarqo_ring_put(
+        page: *mut u8,
+        page_length: usize,
+        in_prod: *mut u32,
+        contact_limit: u32,
+        event: *const u8,
+        event_length: usize,
+    ) -> u8;
+
+    pub fn thayarqo_ring_take(page: *mut u8, page_length: usize, in_cons: *mut u32, contact_limit: u32) -> RingFound;
 
     pub fn thayarqo_fresh_settings() -> Settings;
 

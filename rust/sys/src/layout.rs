@@ -11,6 +11,8 @@ const _: () = {
     assert!(size_of::<Driver>() == 268);
     assert!(size_of::<Told>() == 12);
     assert!(size_of::<Copied>() == 8);
+    assert!(size_of::<RingEvent>() == 32);
+    assert!(size_of::<RingFound>() == 36);
     assert!(size_of::<Settings>() == 48);
     assert!(size_of::<Closed>() == 28);
 };

@@ -18,6 +18,10 @@ pub const UNKNOWN_SLOT: u32 = 0xFFFF_FFFF;
 pub const ENTRY_PAGE_LENGTH: usize = 4096;
 /// Bytes of an entry that have a meaning.
 pub const KNOWN_ENTRY_LENGTH: usize = 68;
+/// Bytes of the keyboard ring's page.
+pub const RING_PAGE_LENGTH: usize = 4096;
+/// Bytes of an event of the keyboard ring.
+pub const RING_EVENT_LENGTH: usize = 40;
 /// The most events that a packet holds.
 pub const PACKET_EVENTS: usize = 32;
 
@@ -108,6 +112,44 @@ pub const TOLD_RESET_ALL: u8 = 7;
 pub struct Copied {
     pub answer: u8,
     pub count: u32,
+}
+
+/// An event of the keyboard ring: `kind` is one of the `RING_` numbers, and `subtype` of a touch one of the `TOUCH_` numbers.
+#[repr(C)]
+#[derive(Clone, Copy, Debug, Default, PartialEq, Eq)]
+pub struct RingEvent {
+    pub kind: u8,
+    pub subtype: u8,
+    pub contact: u8,
+    pub pressed: bool,
+    pub x: i32,
+    pub y: i32,
+    pub z: i32,
+    pub keycode: u32,
+    pub major: u32,
+    pub minor: u32,
+    pub orientation: i16,
+}
+
+pub const RING_UNKNOWN: u8 = 0;
+pub const RING_MOTION: u8 = 1;
+pub const RING_KEY: u8 = 3;
+pub const RING_POSITION: u8 = 4;
+pub const RING_TOUCH: u8 = 5;
+
+pub const TOUCH_DOWN: u8 = 0;
+pub const TOUCH_UP: u8 = 1;
+pub const TOUCH_MOTION: u8 = 2;
+pub const TOUCH_SYN: u8 = 3;
+pub const TOUCH_SHAPE: u8 = 4;
+pub const TOUCH_ORIENT: u8 = 5;
+
+/// What a decode or a take answers.
+#[repr(C)]
+#[derive(Clone, Copy, Debug, PartialEq, Eq)]
+pub struct RingFound {
+    pub answer: u8,
+    pub event: RingEvent,
 }
 
 /// A numeric node.

@@ -1,7 +1,9 @@
 //! The calls of the library over slices: the one place where it is entered. Its proofs hold for any numbers and any lengths, so what
 //! makes these calls sound is that each buffer is a slice and that no two overlap.
 #![allow(unsafe_code)]
-use thayarqo_sys::{self as sys, Closed, Copied, Device, Driver, Geometry, Packet, Settings, Told, Value};
+use thayarqo_sys::{
+    self as sys, Closed, Copied, Device, Driver, Geometry, Packet, RingEvent, RingFound, Settings, Told, Value,
+};
 
 pub fn fresh_device() -> Device {
     unsafe { sys::thayarqo_fresh_device() }
@@ -115,6 +117,23 @@ pub fn copy_out(geometry: Geometry, area: &mut [u8], limit: u32, out: &mut [u8])
 
 pub fn lookup(geometry: Geometry, page: &[u8], slot: u32, out: &mut [u8]) -> u8 {
     unsafe { sys::thayarqo_lookup(geometry, page.as_ptr(), page.len(), slot, out.as_mut_ptr(), out.len()) }
+}
+
+pub fn ring_encode(out: &mut [u8], event: RingEvent) -> u8 {
+    unsafe { sys::thayarqo_ring_encode(out.as_mut_ptr(), out.len(), event) }
+}
+
+pub fn ring_decode(bytes: &[u8], contact_limit: u32) -> RingFound {
+    unsafe { sys::thayarqo_ring_decode(bytes.as_ptr(), bytes.len(), contact_limit) }
+}
+
+pub fn ring_put(page: &mut [u8], in_prod: &mut u32, contact_limit: u32, event: &[u8]) -> u8 {
+    let (from, length) = (event.as_ptr(), event.len());
+    unsafe { sys::thayarqo_ring_put(page.as_mut_ptr(), page.len(), in_prod, contact_limit, from, length) }
+}
+
+pub fn ring_take(page: &mut [u8], in_cons: &mut u32, contact_limit: u32) -> RingFound {
+    unsafe { sys::thayarqo_ring_take(page.as_mut_ptr(), page.len(), in_cons, contact_limit) }
 }
 
 pub fn fresh_settings() -> Settings {

@@ -43,6 +43,8 @@ mod geometry;
 pub mod live;
 mod refusal;
 pub mod register;
+mod ring;
+mod ring_event;
 mod settings;
 mod words;
 
@@ -52,4 +54,6 @@ pub use entry::{Entry, KNOWN_ENTRY_LENGTH, NAME_LENGTH};
 pub use event::{Event, Packet, Source, PACKET_EVENTS};
 pub use geometry::{Geometry, PAGE_LENGTH};
 pub use refusal::{Answer, Refusal};
+pub use ring::{RingConsumer, RingProducer, RING_PAGE_LENGTH};
+pub use ring_event::{RingEvent, RING_EVENT_LENGTH};
 pub use settings::{Closed, Settings};

@@ -13,14 +13,45 @@
 //! overwritten before its reader has let go of it. A guest that scribbles over its pages can make the host answer
 //! [`BadIndex`](crate::Refusal::BadIndex) or [`NoRoom`](crate::Refusal::NoRoom) by its read pointer, and changes nothing else but
 //! what it reads itself.
+//!
+//! ```
+//! use std::sync::atomic::AtomicU32;
+//! use std::thread;
+//! use thayarqo::codes::REL_X;
+//! use thayarqo::live::{LiveDevice, LiveDriver, Shared};
+//! use thayarqo::register::{CLIENT_REV, CONTROL, CONTROL_ON};
+//! use thayarqo::{Entry, Event, Geometry, Packet, Refusal, Told};
+//!
+//! let geometry = Geometry::new(1, 8, 68)?;
+//! let words: Vec<AtomicU32> = (0..2048).map(|_| AtomicU32::new(0)).collect();
+//! let (area, page) = words.split_at(1024);
+//! let mut device = LiveDevice::new(geometry, Shared::new(area), Shared::new(page))?;
+//! let mut driver = LiveDriver::new(geometry, Shared::new(area), Shared::new(page))?;
+//! device.add(4, &Entry::new("mouse").offer_rel())?;
+//! device.write(CLIENT_REV, 4, 2)?;
+//! device.write(CONTROL, 4, CONTROL_ON)?;
+//!
+//! let moved = Packet::new(4, &[Event::rel(REL_X, 3)])?;
+//! thread::scope(|scope| {
+//!     scope.spawn(|| {
+//!         while driver.step() != Ok(Told::Packet(moved)) {
+//!             thread::yield_now();
+//!         }
+//!     });
+//!     device.put_packet(&moved)
+//! })?;
+//! # Ok::<(), Refusal>(())
+//! ```
 mod device;
 mod driver;
 #[cfg(test)]
 mod interleaving;
+mod ring;
 mod shared;
 
 pub use device::LiveDevice;
 pub use driver::LiveDriver;
+pub use ring::{LiveConsumer, LiveProducer};
 pub use shared::Shared;
 
 /// Where READ_PTR and WRITE_PTR stand in the event area.

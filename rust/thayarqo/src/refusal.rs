@@ -6,7 +6,7 @@ use std::fmt;
 pub type Answer<T> = Result<T, Refusal>;
 
 /// Why a call was refused. A refused call has changed nothing, but for two exceptions: a packet refused with [`BadIndex`] or
-/// [`NoRoom`] sets the device's lost mark, and a reading call that answers [`Malformed`] has consumed the record.
+/// [`NoRoom`] sets the device's lost mark, and a reading call that answers [`Malformed`] has consumed the record or event.
 ///
 /// [`BadIndex`]: Refusal::BadIndex
 /// [`NoRoom`]: Refusal::NoRoom

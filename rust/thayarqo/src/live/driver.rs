@@ -32,7 +32,7 @@ impl<'a> LiveDriver<'a> {
         })
     }
 
-    /// Forgets what was begun. A guest that switches the device on again calls this before it reads on.
+    /// Forgets what was begun. A guest lets its driver rest while it switches the device on, and calls this before it reads on.
     pub fn restart(&mut self) {
         self.driver = Driver::new(self.driver.geometry());
     }

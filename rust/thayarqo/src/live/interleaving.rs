@@ -1,6 +1,7 @@
 //! One end's calls in the middle of the other's: before an access to shared words the other end may run. Threads seldom meet at the
 //! places that matter; here they do, and in the same way in each run.
 mod device;
+mod ring;
 
 use super::Shared;
 use std::cell::RefCell;
@@ -35,7 +36,7 @@ fn interleave(calls: u32, mut one: impl FnMut(), mut other: impl FnMut() + 'stat
     OTHER_END.set(Some(Box::new(move || {
         state = state.wrapping_mul(1_664_525).wrapping_add(1_013_904_223);
         pauses += 1;
-        let one_in = if pauses & 512 == 0 { 2 } else { 32 };
+        let one_in = if pauses & 4096 == 0 { 2 } else { 32 };
         if (state >> 16).is_multiple_of(one_in) {
             other();
         }
