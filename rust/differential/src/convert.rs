@@ -1,0 +1,86 @@
+//! The library's structs from the model's, and back.
+
+use thayarqo_model::closing::Closed;
+use thayarqo_model::device::Device;
+use thayarqo_model::driver::Driver;
+use thayarqo_model::geometry::Geometry;
+use thayarqo_model::packet::Packet;
+use thayarqo_model::records::Event;
+use thayarqo_model::settings::{Parameter, Settings};
+use thayarqo_sys as sys;
+
+/// A struct of one crate as the other's: fields of the same type by name, then fields with the function that converts each.
+macro_rules! convert {
+    ($value:expr => $($to:ident)::+ { $($same:ident),* $(; $($other:ident by $with:ident),+)? }) => {
+        $($to)::+ { $($same: $value.$same,)* $($($other: $with($value.$other)),+)? }
+    };
+}
+
+pub fn to_geometry(geometry: Geometry) -> sys::Geometry {
+    convert!(geometry => sys::Geometry { pages, record_size, entry_size })
+}
+
+pub fn to_device(device: &Device) -> sys::Device {
+    convert!(device => sys::Device {
+        on, interrupts, isr, lost, client_rev_written, client_rev, write_index, current_slot, taken
+    })
+}
+
+pub fn device_of(device: sys::Device) -> Device {
+    convert!(device => Device {
+        on, interrupts, isr, lost, client_rev_written, client_rev, write_index, current_slot, taken
+    })
+}
+
+fn to_events(events: [Event; 32]) -> [sys::Event; 32] {
+    events.map(|event| convert!(event => sys::Event { kind, code, value }))
+}
+
+fn events_of(events: [sys::Event; 32]) -> [Event; 32] {
+    events.map(|event| convert!(event => Event { kind, code, value }))
+}
+
+pub fn to_packet(packet: &Packet) -> sys::Packet {
+    convert!(packet => sys::Packet { slot, count; events by to_events })
+}
+
+pub fn to_driver(driver: &Driver) -> sys::Driver {
+    convert!(driver => sys::Driver { slot, held, overlong, spoiled, ignoring; events by to_events })
+}
+
+pub fn driver_of(driver: sys::Driver) -> Driver {
+    convert!(driver => Driver { slot, held, overlong, spoiled, ignoring; events by events_of })
+}
+
+fn to_parameter(parameter: Parameter) -> sys::Parameter {
+    convert!(parameter => sys::Parameter { given, value })
+}
+
+fn parameter_of(parameter: sys::Parameter) -> Parameter {
+    convert!(parameter => Parameter { given, value })
+}
+
+pub fn to_settings(settings: &Settings) -> sys::Settings {
+    convert!(settings => sys::Settings {
+        feature_disable_keyboard, feature_disable_pointer, feature_abs_pointer, feature_multi_touch,
+        feature_raw_pointer, request_abs_pointer, request_multi_touch, request_raw_pointer;
+        width by to_parameter, height by to_parameter, contacts by to_parameter,
+        touch_width by to_parameter, touch_height by to_parameter
+    })
+}
+
+pub fn settings_of(settings: sys::Settings) -> Settings {
+    convert!(settings => Settings {
+        feature_disable_keyboard, feature_disable_pointer, feature_abs_pointer, feature_multi_touch,
+        feature_raw_pointer, request_abs_pointer, request_multi_touch, request_raw_pointer;
+        width by parameter_of, height by parameter_of, contacts by parameter_of,
+        touch_width by parameter_of, touch_height by parameter_of
+    })
+}
+
+pub fn closed_of(closed: sys::Closed) -> Closed {
+    convert!(closed => Closed {
+        answer, absolute, multi_touch, raw, disable_keyboard, disable_pointer,
+        width, height, contacts, touch_width, touch_height
+    })
+}

@@ -1,0 +1,154 @@
+//! What is promised of whole lists from a switch-on: the driver has received a front part of the accepted packets, each whole, in
+//! order, under its slot, and all of them right after it hears "nothing to read". A gap shows before an accepted packet exactly when
+//! one was refused for room since the one accepted before it.
+
+use crate::allowed_geometry;
+use crate::call::{Answer, Call, Core};
+use crate::generate::{add, packet, plug_in, quiet_access, remove, Phase};
+use crate::logs::Logs;
+use crate::random::Random;
+use crate::world::World;
+use std::fmt;
+use thayarqo_model::access::{CONTROL, INTERRUPTS};
+use thayarqo_model::answer::{BAD_INDEX, DONE, INVALID, NOTHING_TO_READ};
+use thayarqo_model::device::NO_SLOT;
+use thayarqo_model::geometry::{Geometry, PAGE};
+
+/// What the lists of a run came to.
+#[derive(Debug, Default)]
+pub struct Delivery {
+    pub seed: u64,
+    pub calls: u64,
+    pub lists: u64,
+    pub packets: u64,
+    pub gaps: u64,
+    /// How often the driver heard "nothing to read".
+    pub dry: u64,
+    pub broken: Option<String>,
+}
+
+impl fmt::Display for Delivery {
+    fn fmt(&self, to: &mut fmt::Formatter) -> fmt::Result {
+        let Delivery {
+            seed,
+            calls,
+            lists,
+            packets,
+            gaps,
+            dry,
+            broken,
+        } = self;
+        writeln!(to, "seed {seed}: {calls} calls in {lists} lists")?;
+        writeln!(
+            to,
+            "  received {packets} packets and {gaps} gaps; nothing to read {dry} times"
+        )?;
+        match broken {
+            Some(why) => write!(to, "a promise is broken: {why}"),
+            None => write!(to, "every list is delivered"),
+        }
+    }
+}
+
+/// Makes at least that many calls on one side, unless a promise is broken before.
+pub fn run(core: &dyn Core, seed: u64, calls: u64) -> Delivery {
+    let mut random = Random::new(seed);
+    let mut delivery = Delivery {
+        seed,
+        ..Delivery::default()
+    };
+    while delivery.calls < calls && delivery.broken.is_none() {
+        let geometry = allowed_geometry(random.word());
+        delivery.lists += 1;
+        if let Err(why) = run_list(core, &mut random, geometry, &mut delivery) {
+            delivery.broken = Some(format!("{why}, in list {} under {geometry:?}", delivery.lists));
+        }
+    }
+    delivery
+}
+
+fn run_list(core: &dyn Core, random: &mut Random, geometry: Geometry, delivery: &mut Delivery) -> Result<(), String> {
+    let mut world = switched_off(random, geometry);
+    switch_on(core, &mut world, random)?;
+    let mut logs = Logs::default();
+    let mut phase = Phase::Filling;
+    let length = 100 + random.below(200) + geometry.ring_length() / 2;
+    for place in 0.. {
+        phase.turn(random, &world);
+        // In the end there are steps alone, so that all that was sent is looked at.
+        let call = match place < length {
+            true => next(random, &world, phase),
+            false => Call::Step,
+        };
+        let answer = core.call(&mut world, &call);
+        delivery.calls += 1;
+        check_answer(&call, &answer, geometry)?;
+        logs.note(&call, &answer, &world.driver)?;
+        if place >= length && answer.number() == NOTHING_TO_READ {
+            break;
+        }
+        if place == length + geometry.ring_length() {
+            return Err("a whole ring was read, and there is more to read".to_string());
+        }
+    }
+    delivery.packets += logs.packets;
+    delivery.gaps += logs.gaps;
+    delivery.dry += logs.dry;
+    Ok(())
+}
+
+/// A device in any state that the rules allow, off, with pages of any bytes and a fresh driver.
+fn switched_off(random: &mut Random, geometry: Geometry) -> World {
+    let mut world = World::new(geometry);
+    let area = random.bytes(geometry.area_length());
+    world.area.load(&area);
+    world.page.load(&random.bytes(PAGE));
+    plug_in(random, &mut world, geometry);
+    let device = &mut world.device;
+    (device.client_rev_written, device.client_rev) = (true, 2);
+    device.current_slot = match device.taken_slots().first() {
+        Some(&slot) if random.once_in(2) => slot,
+        _ => NO_SLOT,
+    };
+    device.write_index = random.below(geometry.ring_length());
+    (device.lost, device.isr) = (random.once_in(2), random.once_in(2));
+    world
+}
+
+fn switch_on(core: &dyn Core, world: &mut World, random: &mut Random) -> Result<(), String> {
+    let call = Call::Write {
+        offset: CONTROL,
+        width: 4,
+        value: random.word() & INTERRUPTS | 1,
+    };
+    match core.call(world, &call).number() {
+        DONE if world.device.on => Ok(()),
+        answer => Err(format!("the switch-on answers {answer}")),
+    }
+}
+
+/// A call of such a list: none moves the read pointer but a step.
+fn next(random: &mut Random, world: &World, phase: Phase) -> Call {
+    let busy = random.below(100) < 80;
+    match phase {
+        Phase::Filling if busy => packet(random, world),
+        Phase::Draining if busy => Call::Step,
+        _ => match random.below(8) {
+            0..=2 => Call::Step,
+            3 => packet(random, world),
+            4 => add(random, world),
+            5 => remove(random, world),
+            _ => quiet_access(random, world),
+        },
+    }
+}
+
+/// In such a list no index is impossible, and no state breaks a rule.
+fn check_answer(call: &Call, answer: &Answer, geometry: Geometry) -> Result<(), String> {
+    let wrong_entry = matches!(call, Call::Add { entry, .. } if entry.len() != geometry.entry_size as usize);
+    match answer.number() {
+        BAD_INDEX => Err(format!("{call} answers 10")),
+        INVALID if !wrong_entry => Err(format!("{call} answers 1")),
+        _ => Ok(()),
+    }
+}

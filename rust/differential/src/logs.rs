@@ -1,0 +1,77 @@
+//! What was sent and what was received, from arguments and answers alone.
+
+use crate::call::{Answer, Call};
+use std::collections::VecDeque;
+use thayarqo_model::answer::{DONE, NOTHING_TO_READ, NO_ROOM};
+use thayarqo_model::driver::Driver;
+use thayarqo_model::records::Event;
+use thayarqo_sys::{TOLD_GAP, TOLD_PACKET};
+
+/// An entry of either log.
+#[derive(Debug, PartialEq, Eq)]
+enum Entry {
+    Gap,
+    Packet { slot: u32, events: Vec<Event> },
+}
+
+/// The sent log without its front part that was received, and what was received as numbers.
+#[derive(Default)]
+pub struct Logs {
+    waiting: VecDeque<Entry>,
+    refused_for_room: bool,
+    pub packets: u64,
+    pub gaps: u64,
+    pub dry: u64,
+}
+
+impl Logs {
+    pub fn note(&mut self, call: &Call, answer: &Answer, driver: &Driver) -> Result<(), String> {
+        match (call, answer) {
+            (Call::PutPacket(packet), Answer::Number(DONE)) => {
+                if self.refused_for_room {
+                    self.waiting.push_back(Entry::Gap);
+                }
+                self.refused_for_room = false;
+                self.waiting.push_back(Entry::Packet {
+                    slot: packet.slot,
+                    events: packet.events().unwrap_or_default().to_vec(),
+                });
+                Ok(())
+            }
+            (Call::PutPacket(_), Answer::Number(NO_ROOM)) => {
+                self.refused_for_room = true;
+                Ok(())
+            }
+            (Call::Step, Answer::Told(told)) if told.answer == NOTHING_TO_READ => self.hear_nothing(),
+            (Call::Step, Answer::Told(told)) if told.what == TOLD_GAP => self.receive(Entry::Gap),
+            (Call::Step, Answer::Told(told)) if told.what == TOLD_PACKET => {
+                let events = driver.events.get(..told.count as usize);
+                self.receive(Entry::Packet {
+                    slot: told.slot,
+                    events: events.unwrap_or_default().to_vec(),
+                })
+            }
+            _ => Ok(()),
+        }
+    }
+
+    fn hear_nothing(&mut self) -> Result<(), String> {
+        self.dry += 1;
+        match self.waiting.front() {
+            None => Ok(()),
+            Some(entry) => Err(format!("nothing to read, and {entry:?} wasn't received")),
+        }
+    }
+
+    fn receive(&mut self, entry: Entry) -> Result<(), String> {
+        let sent = self.waiting.pop_front();
+        if sent.as_ref() != Some(&entry) {
+            return Err(format!("received {entry:?}, and sent {sent:?}"));
+        }
+        match entry {
+            Entry::Gap => self.gaps += 1,
+            Entry::Packet { .. } => self.packets += 1,
+        }
+        Ok(())
+    }
+}
