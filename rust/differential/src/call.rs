@@ -6,6 +6,7 @@ use thayarqo_model::access::Value;
 use thayarqo_model::closing::Closed;
 use thayarqo_model::guest::Copied;
 use thayarqo_model::packet::Packet;
+use thayarqo_model::ring_event::{RingNumbers, Taken};
 
 #[derive(Clone, Debug)]
 pub enum Call {
@@ -22,6 +23,10 @@ pub enum Call {
     Lookup { slot: u32, out_length: usize },
     Node { name: Vec<u8>, value: Vec<u8> },
     Close,
+    RingEncode { event: RingNumbers, out_length: usize },
+    RingDecode { bytes: Vec<u8>, limit: u32 },
+    RingPut { event: Vec<u8>, limit: u32 },
+    RingTake { limit: u32 },
 }
 
 /// What a call gives back.
@@ -32,6 +37,7 @@ pub enum Answer {
     Told(Told),
     Copied(Copied),
     Closed(Closed),
+    Taken(Taken),
 }
 
 /// What a step tells, in the header's numbers.
@@ -64,6 +70,10 @@ impl Call {
             Call::Lookup { .. } => "lookup",
             Call::Node { .. } => "node",
             Call::Close => "close",
+            Call::RingEncode { .. } => "ring encode",
+            Call::RingDecode { .. } => "ring decode",
+            Call::RingPut { .. } => "ring put",
+            Call::RingTake { .. } => "ring take",
         }
     }
 }
@@ -77,6 +87,7 @@ impl Answer {
             Answer::Told(told) => told.answer,
             Answer::Copied(copied) => copied.answer,
             Answer::Closed(closed) => closed.answer,
+            Answer::Taken(taken) => taken.answer,
         }
     }
 }

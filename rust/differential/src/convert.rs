@@ -6,6 +6,7 @@ use thayarqo_model::driver::Driver;
 use thayarqo_model::geometry::Geometry;
 use thayarqo_model::packet::Packet;
 use thayarqo_model::records::Event;
+use thayarqo_model::ring_event::{RingNumbers, Taken};
 use thayarqo_model::settings::{Parameter, Settings};
 use thayarqo_sys as sys;
 
@@ -83,4 +84,20 @@ pub fn closed_of(closed: sys::Closed) -> Closed {
         answer, absolute, multi_touch, raw, disable_keyboard, disable_pointer,
         width, height, contacts, touch_width, touch_height
     })
+}
+
+pub fn to_ring_event(event: &RingNumbers) -> sys::RingEvent {
+    convert!(event => sys::RingEvent {
+        kind, subtype, contact, pressed, x, y, z, keycode, major, minor, orientation
+    })
+}
+
+fn ring_event_of(event: sys::RingEvent) -> RingNumbers {
+    convert!(event => RingNumbers {
+        kind, subtype, contact, pressed, x, y, z, keycode, major, minor, orientation
+    })
+}
+
+pub fn taken_of(found: sys::RingFound) -> Taken {
+    convert!(found => Taken { answer; event by ring_event_of })
 }

@@ -1,12 +1,13 @@
 //! What is promised of whole lists from a switch-on: the driver has received a front part of the accepted packets, each whole, in
 //! order, under its slot, and all of them right after it hears "nothing to read". A gap shows before an accepted packet exactly when
-//! one was refused for room since the one accepted before it.
+//! one was refused for room since the one accepted before it. Some of the lists are the keyboard ring's: see `ring_order`.
 
 use crate::allowed_geometry;
 use crate::call::{Answer, Call, Core};
 use crate::generate::{add, packet, plug_in, quiet_access, remove, Phase};
 use crate::logs::Logs;
 use crate::random::Random;
+use crate::ring_order;
 use crate::world::World;
 use std::fmt;
 use thayarqo_model::access::{CONTROL, INTERRUPTS};
@@ -24,6 +25,7 @@ pub struct Delivery {
     pub gaps: u64,
     /// How often the driver heard "nothing to read".
     pub dry: u64,
+    pub ring_events: u64,
     pub broken: Option<String>,
 }
 
@@ -36,12 +38,13 @@ impl fmt::Display for Delivery {
             packets,
             gaps,
             dry,
+            ring_events,
             broken,
         } = self;
         writeln!(to, "seed {seed}: {calls} calls in {lists} lists")?;
         writeln!(
             to,
-            "  received {packets} packets and {gaps} gaps; nothing to read {dry} times"
+            "  received {packets} packets and {gaps} gaps, nothing to read {dry} times; taken {ring_events} ring events"
         )?;
         match broken {
             Some(why) => write!(to, "a promise is broken: {why}"),
@@ -60,14 +63,35 @@ pub fn run(core: &dyn Core, seed: u64, calls: u64) -> Delivery {
     while delivery.calls < calls && delivery.broken.is_none() {
         let geometry = allowed_geometry(random.word());
         delivery.lists += 1;
-        if let Err(why) = run_list(core, &mut random, geometry, &mut delivery) {
+        let result = match random.once_in(4) {
+            true => run_ring_list(core, &mut random, geometry, &mut delivery),
+            false => run_device_list(core, &mut random, geometry, &mut delivery),
+        };
+        if let Err(why) = result {
             delivery.broken = Some(format!("{why}, in list {} under {geometry:?}", delivery.lists));
         }
     }
     delivery
 }
 
-fn run_list(core: &dyn Core, random: &mut Random, geometry: Geometry, delivery: &mut Delivery) -> Result<(), String> {
+fn run_ring_list(
+    core: &dyn Core,
+    random: &mut Random,
+    geometry: Geometry,
+    delivery: &mut Delivery,
+) -> Result<(), String> {
+    let order = ring_order::run_list(core, random, geometry)?;
+    delivery.calls += order.calls;
+    delivery.ring_events += order.taken;
+    Ok(())
+}
+
+fn run_device_list(
+    core: &dyn Core,
+    random: &mut Random,
+    geometry: Geometry,
+    delivery: &mut Delivery,
+) -> Result<(), String> {
     let mut world = switched_off(random, geometry);
     switch_on(core, &mut world, random)?;
     let mut logs = Logs::default();

@@ -11,13 +11,14 @@ mod logs;
 mod random;
 mod reference;
 mod report;
+mod ring_order;
 mod world;
 
 pub use call::{Answer, Call, Core};
 pub use library::Library;
 pub use report::{Difference, Report};
 
-use generate::{other_geometry, plug_in, Action, List, Mood};
+use generate::{begin_ring, other_geometry, plug_in, Action, List, Mood};
 use random::Random;
 use std::collections::VecDeque;
 use thayarqo_model::geometry::Geometry;
@@ -45,6 +46,7 @@ pub fn run(seed: u64, calls: u64, fault: Fault) -> Report {
             Mood::Damaged,
             Mood::Damaged,
             Mood::Nodes,
+            Mood::Ring,
         ]);
         run_list(&mut random, model, mood, &mut report);
     }
@@ -55,7 +57,7 @@ pub fn run(seed: u64, calls: u64, fault: Fault) -> Report {
 fn next_geometry(random: &mut Random, mood: Mood, report: &mut Report) -> Geometry {
     let allowed = allowed_geometry(report.device_lists);
     match mood {
-        Mood::Nodes => allowed,
+        Mood::Nodes | Mood::Ring => allowed,
         _ if random.once_in(40) => other_geometry(random, allowed),
         _ => {
             report.device_lists += 1;
@@ -103,6 +105,7 @@ fn started(random: &mut Random, geometry: Geometry) -> World {
         };
         buffer.load(&bytes);
     }
+    begin_ring(random, &mut world);
     if geometry.is_allowed() && random.once_in(2) {
         plug_in(random, &mut world, geometry);
         let index = random.below(geometry.ring_length());

@@ -2,12 +2,14 @@
 
 use crate::call::{Answer, Call, Core, Told};
 use crate::convert::{
-    closed_of, device_of, driver_of, settings_of, to_device, to_driver, to_geometry, to_packet, to_settings,
+    closed_of, device_of, driver_of, settings_of, taken_of, to_device, to_driver, to_geometry, to_packet,
+    to_ring_event, to_settings,
 };
 use crate::world::World;
 use thayarqo_model::access::Value;
 use thayarqo_model::answer::DONE;
 use thayarqo_model::guest::Copied;
+use thayarqo_model::ring_event::RingNumbers;
 use thayarqo_sys as sys;
 
 pub struct Library;
@@ -26,6 +28,10 @@ impl Core for Library {
             Call::CopyOut { limit, out_length } => return copy_out(world, *limit, *out_length),
             Call::Lookup { slot, out_length } => return lookup(world, *slot, *out_length),
             Call::Node { name, value } => return node(world, name, value),
+            Call::RingEncode { event, out_length } => return ring_encode(world, event, *out_length),
+            Call::RingDecode { bytes, limit } => return ring_decode(world, bytes, *limit),
+            Call::RingPut { event, limit } => return ring_put(world, event, *limit),
+            Call::RingTake { limit } => return ring_take(world, *limit),
             Call::Close => {
                 let settings = to_settings(&world.settings);
                 return Answer::Closed(closed_of(unsafe { sys::thayarqo_close(settings) }));
@@ -184,4 +190,40 @@ fn node(world: &mut World, name: &[u8], value: &[u8]) -> Answer {
     let answer = unsafe { sys::thayarqo_node(&mut settings, name.as_ptr(), name.len(), value.as_ptr(), value.len()) };
     world.settings = settings_of(settings);
     Answer::Number(answer)
+}
+
+fn ring_encode(world: &mut World, event: &RingNumbers, out_length: usize) -> Answer {
+    world.out.set_length(out_length);
+    let out = world.out.lend();
+    Answer::Number(unsafe { sys::thayarqo_ring_encode(out.as_mut_ptr(), out.len(), to_ring_event(event)) })
+}
+
+fn ring_decode(world: &mut World, bytes: &[u8], limit: u32) -> Answer {
+    world.input.load(bytes);
+    let bytes = world.input.bytes();
+    Answer::Taken(taken_of(unsafe {
+        sys::thayarqo_ring_decode(bytes.as_ptr(), bytes.len(), limit)
+    }))
+}
+
+fn ring_put(world: &mut World, event: &[u8], limit: u32) -> Answer {
+    world.input.load(event);
+    let (page, event) = (world.ring_page.lend(), world.input.bytes());
+    Answer::Number(unsafe {
+        sys::thayarqo_ring_put(
+            page.as_mut_ptr(),
+            page.len(),
+            &mut world.in_prod,
+            limit,
+            event.as_ptr(),
+            event.len(),
+        )
+    })
+}
+
+fn ring_take(world: &mut World, limit: u32) -> Answer {
+    let page = world.ring_page.lend();
+    Answer::Taken(taken_of(unsafe {
+        sys::thayarqo_ring_take(page.as_mut_ptr(), page.len(), &mut world.in_cons, limit)
+    }))
 }

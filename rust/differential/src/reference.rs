@@ -24,6 +24,9 @@ impl Core for Model {
                 return Answer::Number(self.node(&mut world.settings, name, value));
             }
             Call::Close => return Answer::Closed(self.close(&world.settings)),
+            Call::RingEncode { .. } | Call::RingDecode { .. } | Call::RingPut { .. } | Call::RingTake { .. } => {
+                return ring_call(*self, world, call);
+            }
             _ => return device_call(*self, world, call),
         }
         Answer::Number(DONE)
@@ -64,6 +67,26 @@ fn guest_call(model: Model, world: &mut World, call: &Call) -> Answer {
             Answer::Number(model.lookup_copy(geometry, page, *slot, out))
         }
         _ => Answer::Told(numbers(model.step(&mut world.driver, geometry, world.area.lend()))),
+    }
+}
+
+fn ring_call(model: Model, world: &mut World, call: &Call) -> Answer {
+    let page = world.ring_page.lend();
+    match call {
+        Call::RingEncode { event, out_length } => {
+            world.out.set_length(*out_length);
+            Answer::Number(model.encode(event, world.out.lend()))
+        }
+        Call::RingDecode { bytes, limit } => {
+            world.input.load(bytes);
+            Answer::Taken(model.decode(world.input.bytes(), *limit))
+        }
+        Call::RingPut { event, limit } => {
+            world.input.load(event);
+            Answer::Number(model.ring_put(page, &mut world.in_prod, *limit, world.input.bytes()))
+        }
+        Call::RingTake { limit } => Answer::Taken(model.ring_take(page, &mut world.in_cons, *limit)),
+        other => unreachable!("{other} is no call of the ring"),
     }
 }
 

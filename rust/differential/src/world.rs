@@ -17,7 +17,11 @@ pub struct World {
     pub settings: Settings,
     pub area: Guarded,
     pub page: Guarded,
-    /// What a call only reads: an entry, a node's name.
+    pub ring_page: Guarded,
+    /// The private indices of the ring's two ends.
+    pub in_prod: u32,
+    pub in_cons: u32,
+    /// What a call only reads: an entry, a node's name, a ring event.
     pub input: Guarded,
     /// A node's value.
     pub text: Guarded,
@@ -34,12 +38,16 @@ impl World {
             settings: Settings::fresh(),
             area: Guarded::new(MOST_AREA),
             page: Guarded::new(PAGE + 64),
+            ring_page: Guarded::new(PAGE + 64),
+            in_prod: 0,
+            in_cons: 0,
             input: Guarded::new(512),
             text: Guarded::new(64),
             out: Guarded::new(PAGE),
         };
         world.area.set_length(geometry.area_length());
         world.page.set_length(PAGE);
+        world.ring_page.set_length(PAGE);
         world
     }
 
@@ -50,6 +58,9 @@ impl World {
             Change::Page { at, bytes } => self.page.scribble(*at, bytes),
             Change::AreaLength(length) => self.area.set_length(*length),
             Change::PageLength(length) => self.page.set_length(*length),
+            Change::RingPage { at, bytes } => self.ring_page.scribble(*at, bytes),
+            Change::RingPageLength(length) => self.ring_page.set_length(*length),
+            Change::RingIndices { in_prod, in_cons } => (self.in_prod, self.in_cons) = (*in_prod, *in_cons),
             Change::Geometry(geometry) => self.geometry = *geometry,
             Change::Device(device) => self.device = *device,
             Change::Driver(driver) => self.driver = **driver,
@@ -66,10 +77,13 @@ impl World {
             differ("device", &self.device, &model.device),
             differ("driver", &self.driver, &model.driver),
             differ("settings", &self.settings, &model.settings),
+            differ("in_prod", &self.in_prod, &model.in_prod),
+            differ("in_cons", &self.in_cons, &model.in_cons),
         ];
         let buffers = [
             ("event area", &self.area, &model.area),
             ("entry page", &self.page, &model.page),
+            ("ring page", &self.ring_page, &model.ring_page),
             ("input", &self.input, &model.input),
             ("text", &self.text, &model.text),
             ("out", &self.out, &model.out),
@@ -96,6 +110,9 @@ pub enum Change {
     Page { at: usize, bytes: Vec<u8> },
     AreaLength(usize),
     PageLength(usize),
+    RingPage { at: usize, bytes: Vec<u8> },
+    RingPageLength(usize),
+    RingIndices { in_prod: u32, in_cons: u32 },
     Geometry(Geometry),
     Device(Device),
     Driver(Box<Driver>),

@@ -53,6 +53,10 @@ fn the_right_build_makes_no_difference_and_meets_every_answer() {
         ("lookup", &[0, 1, 6]),
         ("node", &[0, 12]),
         ("close", &[0, 12]),
+        ("ring encode", &[0, 1, 9]),
+        ("ring decode", &[0, 1, 9]),
+        ("ring put", &[0, 1, 7, 9, 10]),
+        ("ring take", &[0, 1, 9, 10, 11]),
     ] {
         assert_eq!(report.numbers_of(call), numbers, "{call}");
     }
@@ -67,4 +71,5 @@ fn half_a_packet_breaks_a_promise_of_lists() {
     let right = delivery::run(&Model::default(), SEED, 100_000);
     assert!(right.broken.is_none(), "{right}");
     assert!(right.packets > 0 && right.gaps > 0 && right.dry > 0, "{right}");
+    assert!(right.ring_events > 0, "{right}");
 }

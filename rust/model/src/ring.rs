@@ -20,7 +20,7 @@ fn event_at(index: u32) -> usize {
 
 impl Model {
     /// The back end's put. Refusals in order: 1, 9, 10, 7.
-    pub fn ring_put(self, page: &mut [u8], in_prod: &mut u32, event: &[u8], limit: u32) -> u8 {
+    pub fn ring_put(self, page: &mut [u8], in_prod: &mut u32, limit: u32, event: &[u8]) -> u8 {
         if page.len() != PAGE || event.len() != RING_EVENT || !is_contact_limit(limit) {
             return INVALID;
         }
@@ -78,9 +78,9 @@ mod tests {
         let (mut page, mut in_prod, mut in_cons) = ([0; PAGE], 0, 0);
         let model = Model::default();
         for code in 0..51 {
-            assert_eq!(model.ring_put(&mut page, &mut in_prod, &key(code), 1), DONE);
+            assert_eq!(model.ring_put(&mut page, &mut in_prod, 1, &key(code)), DONE);
         }
-        assert_eq!(model.ring_put(&mut page, &mut in_prod, &key(99), 1), NO_ROOM);
+        assert_eq!(model.ring_put(&mut page, &mut in_prod, 1, &key(99)), NO_ROOM);
         for code in 0..51 {
             let taken = model.ring_take(&mut page, &mut in_cons, 1);
             assert_eq!((taken.answer, taken.event.keycode), (DONE, code));
@@ -94,7 +94,7 @@ mod tests {
     fn the_index_turns_to_zero() {
         let (mut page, mut in_prod) = ([0; PAGE], u32::MAX);
         put_word(&mut page, IN_CONS, u32::MAX - 2);
-        let answer = Model::default().ring_put(&mut page, &mut in_prod, &key(7), 1);
+        let answer = Model::default().ring_put(&mut page, &mut in_prod, 1, &key(7));
         assert_eq!((answer, in_prod, word(&page, IN_PROD)), (DONE, 0, 0));
         assert_eq!(page[1024..1064], key(7));
     }
@@ -103,8 +103,8 @@ mod tests {
     fn impossible_indices_and_unknown_events() {
         let (mut page, mut index) = ([0; PAGE], 52);
         let model = Model::default();
-        assert_eq!(model.ring_put(&mut page, &mut index, &key(1), 1), BAD_INDEX);
-        assert_eq!(model.ring_put(&mut page, &mut index, &[2; RING_EVENT], 1), MALFORMED);
+        assert_eq!(model.ring_put(&mut page, &mut index, 1, &key(1)), BAD_INDEX);
+        assert_eq!(model.ring_put(&mut page, &mut index, 1, &[2; RING_EVENT]), MALFORMED);
         assert_eq!(model.ring_take(&mut page, &mut index, 1).answer, BAD_INDEX);
     }
 

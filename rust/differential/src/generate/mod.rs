@@ -6,6 +6,7 @@ mod entries;
 mod hostile;
 mod nodes;
 mod packets;
+mod ring;
 mod traffic;
 
 use crate::call::Call;
@@ -17,6 +18,7 @@ use thayarqo_model::geometry::Geometry;
 pub(crate) use accesses::quiet_access;
 pub(crate) use damaged::other_geometry;
 pub(crate) use entries::plug_in;
+pub(crate) use ring::{begin as begin_ring, event_bytes};
 pub(crate) use traffic::{add, packet, remove, Phase};
 
 /// The next thing that happens.
@@ -46,6 +48,8 @@ pub enum Mood {
     Damaged,
     /// Node settings.
     Nodes,
+    /// The keyboard ring, with a front end that scribbles over its page.
+    Ring,
 }
 
 /// The rest of a list, from what has become of the world so far.
@@ -68,6 +72,7 @@ impl List {
         self.phase.turn(random, world);
         match self.mood {
             Mood::Nodes => return nodes::next(random),
+            Mood::Ring => return ring::next(random, world, self.phase),
             Mood::Hostile if random.once_in(4) => return hostile::next(random, world),
             Mood::Damaged if random.once_in(16) => return hostile::next(random, world),
             Mood::Damaged if damaged::is_due(random, world, self.geometry) => {
