@@ -47,6 +47,7 @@ enum thayarqo_answer {
 #define THAYARQO_UNKNOWN_SLOT UINT32_C(0xFFFFFFFF)
 #define THAYARQO_ALL_SLOTS UINT32_C(0xFFFF) /* in a DEV_RESET */
 
+#define THAYARQO_PACKET_LENGTH 256 /* 32 events */
 #define THAYARQO_ENTRY_PAGE_LENGTH 4096
 #define THAYARQO_KNOWN_ENTRY_LENGTH 68
 #define THAYARQO_RING_PAGE_LENGTH 4096
@@ -74,17 +75,11 @@ struct thayarqo_device {
     uint64_t taken;        /* a bit a slot, slot 0 the lowest */
 };
 
+/* A packet's events are lent as bytes, 8 for each as in a record: on a little-endian machine, an array of this struct. */
 struct thayarqo_event {
     uint16_t type;
     uint16_t code;
     uint32_t value;
-};
-
-/* The first count events count, 1 to 32. */
-struct thayarqo_packet {
-    uint32_t slot;
-    uint32_t count;
-    struct thayarqo_event events[32];
 };
 
 struct thayarqo_value {
@@ -96,7 +91,7 @@ struct thayarqo_value {
 struct thayarqo_device thayarqo_fresh_device(void);
 
 /* Reads a register or a word of the pages. Answers 1, 2, 4. */
-struct thayarqo_value thayarqo_read(struct thayarqo_device device, struct thayarqo_geometry geometry,
+struct thayarqo_value thayarqo_read(const struct thayarqo_device *device, struct thayarqo_geometry geometry,
                                     const uint8_t *area, size_t area_length,
                                     const uint8_t *page, size_t page_length,
                                     uint64_t offset, uint32_t width);
@@ -106,10 +101,13 @@ uint8_t thayarqo_write(struct thayarqo_device *device, struct thayarqo_geometry 
                        uint8_t *area, size_t area_length, const uint8_t *page, size_t page_length,
                        uint64_t offset, uint32_t width, uint32_t value);
 
-/* Puts a packet whole, or not at all. Answers 1, 5, 6, 9, 8, 10, 7. Refused with 10 or 7 it sets the lost mark. */
+/*
+ * Puts a slot's packet whole, or not at all. Answers 1, 5, 6, 9, 8, 10, 7: 1 also where packet_length is no multiple of 8, and 9
+ * where it has no event, or over 32. Refused with 10 or 7 it sets the lost mark.
+ */
 uint8_t thayarqo_put_packet(struct thayarqo_device *device, struct thayarqo_geometry geometry,
                             uint8_t *area, size_t area_length, const uint8_t *page, size_t page_length,
-                            struct thayarqo_packet packet);
+                            uint32_t slot, const void *packet, size_t packet_length);
 
 /* Stores an entry of entry_size bytes, and tells the guest while on. Answers 1, 6, 9, and 10, 7 while on. */
 uint8_t thayarqo_add(struct thayarqo_device *device, struct thayarqo_geometry geometry,
@@ -124,8 +122,7 @@ uint8_t thayarqo_remove(struct thayarqo_device *device, struct thayarqo_geometry
 
 struct thayarqo_driver {
     uint32_t slot; /* or THAYARQO_NO_SLOT, THAYARQO_UNKNOWN_SLOT */
-    uint32_t held;
-    struct thayarqo_event events[32];
+    uint32_t held; /* events of the packet that is being collected: the first ones of its buffer */
     bool overlong;
     bool spoiled;
     bool ignoring;
@@ -135,7 +132,7 @@ enum thayarqo_what {
     THAYARQO_TOLD_NOTHING = 0,
     THAYARQO_TOLD_GAP = 1,
     THAYARQO_TOLD_EMPTY_REPORT = 2,
-    THAYARQO_TOLD_PACKET = 3, /* its slot, and count: its events are the driver's first count */
+    THAYARQO_TOLD_PACKET = 3, /* its slot, and count: its events are the buffer's first count */
     THAYARQO_TOLD_SET = 4,
     THAYARQO_TOLD_CONF = 5,
     THAYARQO_TOLD_RESET = 6,
@@ -156,9 +153,13 @@ struct thayarqo_copied {
 
 struct thayarqo_driver thayarqo_fresh_driver(void);
 
-/* Reads one record. Answers 1, 10, 11, and 9 for a malformed record, which is consumed all the same. */
+/*
+ * Reads one record. Answers 1, 10, 11, and 9 for a malformed record, which is consumed all the same. The events of the packet that is
+ * being collected stand in a buffer of THAYARQO_PACKET_LENGTH bytes, which the caller keeps from step to step and lends to each. It
+ * may begin with any bytes. An event that joins the packet is written behind those before it; no other byte of the buffer changes.
+ */
 struct thayarqo_told thayarqo_step(struct thayarqo_driver *driver, struct thayarqo_geometry geometry,
-                                   uint8_t *area, size_t area_length);
+                                   uint8_t *area, size_t area_length, void *packet, size_t packet_length);
 
 /* Copies the first 8 bytes of the oldest records, at most limit and whole eights of out. Answers 1, 10, 11. */
 struct thayarqo_copied thayarqo_copy_out(struct thayarqo_geometry geometry, uint8_t *area, size_t area_length,
@@ -280,9 +281,8 @@ struct thayarqo_closed thayarqo_close(struct thayarqo_settings settings);
 THAYARQO_ASSERT(sizeof(struct thayarqo_geometry) == 12);
 THAYARQO_ASSERT(sizeof(struct thayarqo_device) == 32);
 THAYARQO_ASSERT(sizeof(struct thayarqo_event) == 8);
-THAYARQO_ASSERT(sizeof(struct thayarqo_packet) == 264);
 THAYARQO_ASSERT(sizeof(struct thayarqo_value) == 8);
-THAYARQO_ASSERT(sizeof(struct thayarqo_driver) == 268);
+THAYARQO_ASSERT(sizeof(struct thayarqo_driver) == 12);
 THAYARQO_ASSERT(sizeof(struct thayarqo_told) == 12);
 THAYARQO_ASSERT(sizeof(struct thayarqo_copied) == 8);
 THAYARQO_ASSERT(sizeof(struct thayarqo_ring_event) == 32);

@@ -6,18 +6,29 @@
 
 #include "host_case.h"
 
-enum { AREA = 4096, PAGE = 4096, ENTRY = 72, RING = 511, SLOT = 4 };
+enum { AREA = 4096, PAGE = 4096, ENTRY = 72, RING = 511, SLOT = 4, EVENTS = 32 };
+
+/* A packet's events, with a place for one more than it can have, and guard bytes around them. */
+struct packet {
+    uint8_t before[GUARD];
+    struct thayarqo_event events[EVENTS + 1];
+    uint8_t after[GUARD];
+};
 
 static const struct thayarqo_geometry geometry = {1, 8, ENTRY};
 static struct buffer area, page, old_area, old_page;
+static struct packet sent, held, old_held;
+static bool sent_changed;
 static struct thayarqo_device device, old_device;
-static struct thayarqo_driver driver;
+static struct thayarqo_driver driver, old_driver;
 
 static void remember(void)
 {
     old_area = area;
     old_page = page;
+    old_held = held;
     old_device = device;
+    old_driver = driver;
 }
 
 static bool same_pages(void)
@@ -31,6 +42,25 @@ static bool same_device(void)
         && device.lost == old_device.lost && device.client_rev_written == old_device.client_rev_written
         && device.client_rev == old_device.client_rev && device.write_index == old_device.write_index
         && device.current_slot == old_device.current_slot && device.taken == old_device.taken;
+}
+
+static bool same_driver(void)
+{
+    return driver.slot == old_driver.slot && driver.held == old_driver.held && driver.overlong == old_driver.overlong
+        && driver.spoiled == old_driver.spoiled && driver.ignoring == old_driver.ignoring
+        && memcmp(&held, &old_held, sizeof held) == 0;
+}
+
+static bool held_is_guarded(void)
+{
+    static const struct thayarqo_event guard = {0xA5A5, 0xA5A5, 0xA5A5A5A5};
+    return is_whole(held.before) && memcmp(held.events + EVENTS, &guard, sizeof guard) == 0 && is_whole(held.after);
+}
+
+static bool motion_is(uint32_t index, uint32_t value)
+{
+    const struct thayarqo_event *event = held.events + index;
+    return event->type == EV_REL && event->code == REL_X && event->value == value;
 }
 
 static bool record_is(uint32_t index, uint16_t type, uint16_t code, uint32_t value)
@@ -48,26 +78,35 @@ static uint8_t write_register(uint64_t offset, uint32_t value)
 
 static struct thayarqo_value read_register(uint64_t offset)
 {
-    return thayarqo_read(device, geometry, area.bytes, AREA, page.bytes, PAGE, offset, 4);
+    return thayarqo_read(&device, geometry, area.bytes, AREA, page.bytes, PAGE, offset, 4);
+}
+
+static uint8_t put_bytes(uint32_t slot, size_t length)
+{
+    struct packet lent = sent;
+    uint8_t answer = thayarqo_put_packet(&device, geometry, area.bytes, AREA, page.bytes, PAGE, slot, sent.events, length);
+    sent_changed |= memcmp(&sent, &lent, sizeof sent) != 0;
+    return answer;
 }
 
 static uint8_t put_motions(uint32_t slot, uint32_t count, uint32_t value)
 {
-    struct thayarqo_packet packet;
-    memset(&packet, 0, sizeof packet);
-    packet.slot = slot;
-    packet.count = count;
-    for (uint32_t i = 0; i < count && i < 32; i++) {
-        packet.events[i].type = EV_REL;
-        packet.events[i].code = REL_X;
-        packet.events[i].value = value + i;
+    memset(&sent, GUARD_BYTE, sizeof sent);
+    for (uint32_t i = 0; i < count; i++) {
+        struct thayarqo_event motion = {EV_REL, REL_X, value + i};
+        sent.events[i] = motion;
     }
-    return thayarqo_put_packet(&device, geometry, area.bytes, AREA, page.bytes, PAGE, packet);
+    return put_bytes(slot, count * sizeof *sent.events);
+}
+
+static struct thayarqo_told step_with(size_t packet_length)
+{
+    return thayarqo_step(&driver, geometry, area.bytes, AREA, held.events, packet_length);
 }
 
 static struct thayarqo_told step(void)
 {
-    return thayarqo_step(&driver, geometry, area.bytes, AREA);
+    return step_with(THAYARQO_PACKET_LENGTH);
 }
 
 static uint8_t add_mouse(uint32_t slot)
@@ -84,11 +123,13 @@ static void start(void)
 {
     fill(&area, 0x77);
     fill(&page, 0);
+    memset(&held, GUARD_BYTE, sizeof held);
     device = thayarqo_fresh_device();
     driver = thayarqo_fresh_driver();
     check("a fresh device is off", !device.on && device.taken == 0 && device.current_slot == THAYARQO_NO_SLOT);
     check("a fresh driver has no slot", driver.slot == THAYARQO_NO_SLOT && driver.held == 0);
     answers("a packet while off", THAYARQO_DEVICE_OFF, put_motions(SLOT, 1, 0));
+    answers("12 bytes while off", THAYARQO_INVALID, put_bytes(SLOT, 12));
     answers("an add while off", THAYARQO_DONE, add_mouse(SLOT));
     check("an add stores the entry", word(&page, SLOT * ENTRY + 40) == 5 && page.bytes[SLOT * ENTRY + ENTRY - 1] == 0xEE);
     answers("an add to a taken slot", THAYARQO_BAD_SLOT, add_mouse(SLOT));
@@ -112,9 +153,23 @@ static void refuse_accesses(void)
     answers("a short area", THAYARQO_INVALID,
             thayarqo_write(&device, geometry, area.bytes, AREA - 1, page.bytes, PAGE, 0x100, 4, 0));
     answers("no area", THAYARQO_INVALID, thayarqo_write(&device, geometry, area.bytes, 0, page.bytes, PAGE, 0x100, 4, 0));
-    answers("33 events", THAYARQO_MALFORMED, put_motions(SLOT, 33, 0));
-    answers("a slot out of range", THAYARQO_BAD_SLOT, put_motions(UINT32_MAX, 1, 0));
     check("nothing changed", same_pages() && same_device());
+}
+
+static void refuse_packets(void)
+{
+    remember();
+    answers("33 events", THAYARQO_MALFORMED, put_motions(SLOT, EVENTS + 1, 0));
+    answers("a slot out of range", THAYARQO_BAD_SLOT, put_motions(UINT32_MAX, 1, 0));
+    answers("no event", THAYARQO_MALFORMED, put_motions(SLOT, 0, 0));
+    answers("an event and a half", THAYARQO_INVALID, put_bytes(SLOT, 12));
+    answers("33 events without a byte", THAYARQO_INVALID, put_bytes(SLOT, sizeof sent.events - 1));
+    answers("other events", THAYARQO_NOT_OFFERED, put_bytes(SLOT, 16));
+    check("the device stays as it was", same_pages() && same_device());
+    answers("a packet buffer of 255 bytes", THAYARQO_INVALID, step_with(THAYARQO_PACKET_LENGTH - 1).answer);
+    answers("of 264", THAYARQO_INVALID, step_with(sizeof held.events).answer);
+    answers("of none", THAYARQO_INVALID, step_with(0).answer);
+    check("the driver stays as it was", same_pages() && same_driver());
 }
 
 static void receive_a_packet(void)
@@ -125,10 +180,13 @@ static void receive_a_packet(void)
     check("a reset of all", step().what == THAYARQO_TOLD_RESET_ALL);
     check("a configuration", step().what == THAYARQO_TOLD_CONF);
     check("a slot", step().what == THAYARQO_TOLD_SET);
-    check("two events", step().what == THAYARQO_TOLD_NOTHING && step().what == THAYARQO_TOLD_NOTHING);
+    remember();
+    check("an event", step().what == THAYARQO_TOLD_NOTHING && driver.held == 1 && motion_is(0, 7));
+    check("no byte after it changes", memcmp(held.events + 1, old_held.events + 1, sizeof held.events - 8) == 0);
+    check("another event", step().what == THAYARQO_TOLD_NOTHING && driver.held == 2);
     struct thayarqo_told told = step();
     check("the packet", told.what == THAYARQO_TOLD_PACKET && told.slot == SLOT && told.count == 2);
-    check("its events", driver.events[0].value == 7 && driver.events[1].value == 8);
+    check("its events", motion_is(0, 7) && motion_is(1, 8));
     answers("then nothing to read", THAYARQO_NOTHING_TO_READ, step().answer);
 }
 
@@ -146,13 +204,13 @@ static void fill_the_ring(void)
     uint32_t heard = 0;
     struct thayarqo_told told;
     while ((told = step()).answer == THAYARQO_DONE)
-        heard += told.what == THAYARQO_TOLD_PACKET && driver.events[0].value == heard;
+        heard += told.what == THAYARQO_TOLD_PACKET && told.count == EVENTS && motion_is(0, heard) && motion_is(31, heard + 31);
     check("all of them come, in order", heard == accepted && told.answer == THAYARQO_NOTHING_TO_READ);
     answers("a packet after the gap", THAYARQO_DONE, put_motions(SLOT, 1, 99));
     step();
     check("the gap shows", step().what == THAYARQO_TOLD_GAP);
     step();
-    check("then the packet", step().what == THAYARQO_TOLD_PACKET && driver.events[0].value == 99);
+    check("then the packet", step().what == THAYARQO_TOLD_PACKET && motion_is(0, 99));
 }
 
 static void store_a_silly_read_pointer(void)
@@ -191,7 +249,8 @@ static void remove_the_mouse(void)
     check("the guest is told", record_is(index, EV_DEV, DEV_RESET, SLOT) && device.current_slot == THAYARQO_NO_SLOT);
     answers("a packet for it", THAYARQO_BAD_SLOT, put_motions(SLOT, 1, 0));
     answers("a second remove", THAYARQO_BAD_SLOT, thayarqo_remove(&device, geometry, area.bytes, AREA, page.bytes, PAGE, SLOT));
-    check("the guard bytes are whole", guarded(&area) && guarded(&page));
+    check("the guard bytes are whole", guarded(&area) && guarded(&page) && held_is_guarded());
+    check("no put has changed its events", !sent_changed);
 }
 
 /* ---- nodes ---- */
@@ -219,6 +278,7 @@ int main(void)
 {
     start();
     refuse_accesses();
+    refuse_packets();
     receive_a_packet();
     fill_the_ring();
     store_a_silly_read_pointer();

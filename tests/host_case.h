@@ -8,7 +8,7 @@
 #include <stdio.h>
 #include <string.h>
 
-enum { GUARD = 64 };
+enum { GUARD = 64, GUARD_BYTE = 0xA5 };
 
 struct buffer {
     uint8_t before[GUARD];
@@ -33,16 +33,21 @@ static inline void answers(const char *name, unsigned expected, unsigned answer)
 
 static inline void fill(struct buffer *buffer, uint8_t inside)
 {
-    memset(buffer, 0xA5, sizeof *buffer);
+    memset(buffer, GUARD_BYTE, sizeof *buffer);
     memset(buffer->bytes, inside, sizeof buffer->bytes);
+}
+
+static inline bool is_whole(const uint8_t *guard)
+{
+    for (int i = 0; i < GUARD; i++)
+        if (guard[i] != GUARD_BYTE)
+            return false;
+    return true;
 }
 
 static inline bool guarded(const struct buffer *buffer)
 {
-    for (int i = 0; i < GUARD; i++)
-        if (buffer->before[i] != 0xA5 || buffer->after[i] != 0xA5)
-            return false;
-    return true;
+    return is_whole(buffer->before) && is_whole(buffer->after);
 }
 
 /* ---- little-endian words ---- */

@@ -1,11 +1,7 @@
 -- A reader over a list of records: what it gives on the way, and where it ends. Any reader, so that another one can stand here.
 use mathlib.Core.Path.{_≡_}
 use mathlib.Core.List.{List, [], _∷_, _++_}
-use Rattle.geometry.specs.declared.Geometry.{Geometry}
 use Rattle.records.specs.declared.Event.{Event}
-use Rattle.assembly.specs.declared.Driver.{Driver}
-use Rattle.assembly.specs.declared.Stepped.{Stepped}
-use Rattle.assembly.specs.Transition.{receive}
 
 -- A reader holds a state; a record moves it on, and it gives items.
 module _ {State Item : Type 0} (next : Event → State → State) (give : Event → State → List Item) where
@@ -21,7 +17,3 @@ module _ {State Item : Type 0} (next : Event → State → State) (give : Event 
   pub record Run (state : State) (events : List Event) (items : List Item) (after : State) : Type 0 where
     pub ends : endOf state events ≡ after
     pub gives : givenBy state events ≡ items
-
--- The driver as such a reader.
-abbrev pub driverNext : Geometry → Event → Driver → Driver
-driverNext geometry event driver = receive geometry event driver .driver

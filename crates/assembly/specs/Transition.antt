@@ -1,9 +1,7 @@
 -- What each kind of record does to the driver, and what it tells (01, "The driver's side").
 use Prim.Native.Nat.{ℕ, _+_}
-use mathlib.Core.Bool.{Bool, true, false, _||_, cond}
-use mathlib.Core.List.{List}
+use mathlib.Core.Bool.{Bool, true, false, cond}
 use lib.Dec.{leb, eqb}
-use lib.ListN.{set, replicate}
 use Rattle.answers.specs.Answers.{done, malformed}
 use Rattle.geometry.specs.declared.Geometry.{Geometry}
 use Rattle.records.specs.declared.Event.{Event}
@@ -21,7 +19,6 @@ abbrev pub freshDriver : Driver
 freshDriver = record {
   slot = noSlot;
   held = 0;
-  events = replicate 32 (record { kind = 0; code = 0; value = 0 });
   overlong = false;
   spoiled = false;
   ignoring = false;
@@ -50,7 +47,6 @@ abbrev pub withSlot : ℕ → Driver → Driver
 withSlot slot driver = record {
   slot = slot;
   held = driver .held;
-  events = driver .events;
   overlong = driver .overlong;
   spoiled = driver .spoiled;
   ignoring = driver .ignoring;
@@ -60,7 +56,6 @@ abbrev pub withSpoiled : Driver → Driver
 withSpoiled driver = record {
   slot = driver .slot;
   held = driver .held;
-  events = driver .events;
   overlong = driver .overlong;
   spoiled = true;
   ignoring = driver .ignoring;
@@ -70,17 +65,15 @@ abbrev pub withOverlong : Driver → Driver
 withOverlong driver = record {
   slot = driver .slot;
   held = driver .held;
-  events = driver .events;
   overlong = true;
   spoiled = driver .spoiled;
   ignoring = driver .ignoring;
 }
 
-abbrev pub withEvent : Event → Driver → Driver
-withEvent event driver = record {
+abbrev pub withOneMore : Driver → Driver
+withOneMore driver = record {
   slot = driver .slot;
   held = driver .held + 1;
-  events = set (driver .events) (driver .held) event;
   overlong = driver .overlong;
   spoiled = driver .spoiled;
   ignoring = driver .ignoring;
@@ -91,7 +84,6 @@ abbrev pub ended : Bool → Driver → Driver
 ended ignoring driver = record {
   slot = driver .slot;
   held = 0;
-  events = driver .events;
   overlong = false;
   spoiled = false;
   ignoring = ignoring;
@@ -108,8 +100,8 @@ abbrev pub moved : ℕ → Driver → Driver
 moved slot driver = withSlot slot (spoiled driver)
 
 -- An event joins the packet, or is ignored up to the next report. After the 32nd the packet is too long.
-unfoldable pub joined : Event → Driver → Driver
-joined event driver = cond (driver .ignoring) driver (cond (leb 32 (driver .held)) (withOverlong driver) (withEvent event driver))
+unfoldable pub joined : Driver → Driver
+joined driver = cond (driver .ignoring) driver (cond (leb 32 (driver .held)) (withOverlong driver) (withOneMore driver))
 
 -- A report: a gap after dropped records; malformed if spoiled or too long; else the packet, if one was begun.
 unfoldable pub reported : Driver → Told
@@ -133,7 +125,7 @@ received kind.DevReset event driver = tells (told.Reset (event .value)) (without
 received kind.DevResetAll event driver = tells told.ResetAll (moved noSlot driver)
 received kind.BadDevSet event driver = tells (told.Refused malformed) (moved noSlot driver)
 received kind.BadDev event driver = tells (told.Refused malformed) driver
-received kind.Other event driver = tells told.Nothing (joined event driver)
+received kind.Other event driver = tells told.Nothing (joined driver)
 
 -- One record.
 abbrev pub receive : Geometry → Event → Driver → Stepped

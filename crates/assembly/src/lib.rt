@@ -1,19 +1,21 @@
 // What each record does to a driver: events are collected into packets, and each packet is told whole.
 mod classify;
+mod packet;
 mod transition;
 
-use records::Event;
+pub use packet::PACKET_LENGTH;
+pub use packet::collect;
 use records::codes::NO_SLOT;
 pub use transition::receive;
 ghost use mathlib.Core.Path.{_≡_};
 ghost use Rattle.assembly.specs.Transition.{freshDriver};
 
-// A packet is collected in the first `held` of `events`.
+// The driver's state but for the events of the packet that it collects. These stand in a buffer of their own that the caller
+// lends, so that a step copies one event at most.
 #[repr(C)]
 pub struct Driver {
     pub slot: u32,
     pub held: u32,
-    pub events: [Event; 32],
     pub overlong: bool,
     pub spoiled: bool,
     pub ignoring: bool,
@@ -32,7 +34,7 @@ pub enum Kind {
     Other,
 }
 
-// What a step tells. A packet's events are the first `count` of the returned driver's.
+// What a step tells. A packet's events are the first `count` of the lent buffer.
 pub enum Told {
     Refused(u8),
     Nothing,
@@ -53,15 +55,9 @@ pub struct Stepped {
 pub fn fresh() -> Driver
     ensures { λ r. ⌜ r ≡ freshDriver ⌝ }
 {
-    let none = Event {
-        kind: 0,
-        code: 0,
-        value: 0,
-    };
     Driver {
         slot: NO_SLOT,
         held: 0,
-        events: [none; 32],
         overlong: false,
         spoiled: false,
         ignoring: false,

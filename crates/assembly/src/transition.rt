@@ -44,8 +44,8 @@ fn end(driver: Driver, ignoring: bool) -> Driver
     after
 }
 
-fn join(driver: Driver, event: Event) -> Driver
-    ensures { λ r. ⌜ r ≡ joined event driver ⌝ }
+fn join(driver: Driver) -> Driver
+    ensures { λ r. ⌜ r ≡ joined driver ⌝ }
 {
     if driver.ignoring {
         return driver;
@@ -56,8 +56,6 @@ fn join(driver: Driver, event: Event) -> Driver
         after.overlong = true;
         return after;
     }
-    let place = held as usize;
-    after.events[place] = event;
     after.held = held + 1;
     after
 }
@@ -116,6 +114,6 @@ pub fn receive(geometry: Geometry, driver: Driver, event: Event) -> Stepped
         Kind::DevResetAll => tell(Told::ResetAll, move_to(driver, NO_SLOT)),
         Kind::BadDevSet => tell(Told::Refused(MALFORMED), move_to(driver, NO_SLOT)),
         Kind::BadDev => tell(Told::Refused(MALFORMED), driver),
-        Kind::Other => tell(Told::Nothing, join(driver, event)),
+        Kind::Other => tell(Told::Nothing, join(driver)),
     }
 }

@@ -39,7 +39,7 @@ pub record Delivered (log : List Entry) : Type 0 where
 -- No state or geometry is refused.
 pub record StateHolds (geometry : Geometry) (world : World) : Type 0 where
   pub device-holds : isCall geometry (world .device) (length (world .area)) (length (world .page)) ≡ true
-  pub driver-holds : isValid geometry (world .driver) (length (world .area)) ≡ true
+  pub driver-holds : isValid geometry (world .collector .driver) (length (world .area)) (length (world .collector .packet)) ≡ true
 
 abbrev pub NoBadIndex : List Entry → Type 0
 NoBadIndex [] = Unit {0}
@@ -54,7 +54,7 @@ pub record AfterList (geometry : Geometry) (start : World) (calls : List Call) :
 abbrev pub Delivery : Type 0
 Delivery =
     (geometry : Geometry) → allowed geometry ≡ true
-    → (world : World) → IsFresh (world .driver) → world .device .on ≡ false
+    → (world : World) → IsFresh (world .collector) → world .device .on ≡ false
     → (offset width value : ℕ) → call geometry world (write offset width value) .world .device .on ≡ true
     → (calls : List Call) → AllAllowed geometry (call geometry world (write offset width value) .world) calls
     → AfterList geometry (call geometry world (write offset width value) .world) calls
@@ -63,9 +63,10 @@ Delivery =
 
 abbrev pub StepUnknowing : Type 0
 StepUnknowing =
-    (geometry : Geometry) (driver : Driver) (left right : List ℕ) → SameToDriver (ringOf geometry) left right
-    → (stepOf geometry driver left .stepped ≡ stepOf geometry driver right .stepped)
-    × SameToDriver (ringOf geometry) (stepOf geometry driver left .area) (stepOf geometry driver right .area)
+    (geometry : Geometry) (driver : Driver) (packet left right : List ℕ) → SameToDriver (ringOf geometry) left right
+    → (stepOf geometry driver left packet .stepped ≡ stepOf geometry driver right packet .stepped)
+    × (stepOf geometry driver left packet .packet ≡ stepOf geometry driver right packet .packet)
+    × SameToDriver (ringOf geometry) (stepOf geometry driver left packet .area) (stepOf geometry driver right packet .area)
 
 abbrev pub CopyOutUnknowing : Type 0
 CopyOutUnknowing =

@@ -1,6 +1,6 @@
 -- A run in which everything happens: packets, a refusal for room, a gap, a device that goes and another that comes to its slot, and
 -- nothing to read at the end. Its log is computed from the same definitions.
-use Prim.Native.Nat.{ℕ}
+use Prim.Native.Nat.{ℕ, zero, suc}
 use mathlib.Core.Path.{_≡_}
 use mathlib.Core.Bool.{true, false}
 use mathlib.Core.List.{List, [], _∷_, _++_}
@@ -8,10 +8,10 @@ use lib.ListN.{replicate}
 use Rattle.words.specs.Words.{setU32}
 use Rattle.geometry.specs.declared.Geometry.{Geometry}
 use Rattle.records.specs.declared.Event.{Event}
+use Rattle.records.specs.Event.{eventBytes}
 use Rattle.records.specs.Codes.{EV-REL, noSlot}
 use Rattle.assembly.specs.Transition.{freshDriver}
 use Rattle.device.specs.declared.Device.{Device}
-use Rattle.packets.specs.declared.Packet.{Packet}
 use Rattle.delivery.specs.World.{World, Call, write, add, remove, packet, step, call}
 use Rattle.delivery.specs.Log.{Item, gap, whole, logOf, received, sent, endsDry}
 use Rattle.delivery.specs.Premises.{IsFresh, AllAllowed}
@@ -39,7 +39,7 @@ offDevice = record {
 
 -- The event area holds bytes of before.
 abbrev pub before : World
-before = record { device = offDevice; area = replicate 4096 7; page = setU32 (replicate 4096 0) 1064 5; driver = freshDriver }
+before = record { device = offDevice; area = replicate 4096 7; page = setU32 (replicate 4096 0) 1064 5; collector = record { driver = freshDriver; packet = replicate 256 7 } }
 
 abbrev pub start : World
 start = call small before (write 0x100 4 1) .world
@@ -47,16 +47,18 @@ start = call small before (write 0x100 4 1) .world
 abbrev pub motion : ℕ → Event
 motion value = record { kind = EV-REL; code = 0; value = value }
 
-abbrev pub motions : ℕ → ℕ → Packet
-motions count value = record { slot = 4; count = count; events = replicate 32 (motion value) }
+-- So many of them, as bytes.
+abbrev pub motions : ℕ → ℕ → List ℕ
+motions zero value = []
+motions (suc count) value = eventBytes (motion value) ++ motions count value
 
 -- A packet after the gap; then another mouse comes to slot 4.
 abbrev pub later : List Call
-later = packet (motions 1 3) ∷ remove 4 ∷ add 4 mouse ∷ packet (motions 2 4) ∷ replicate 11 step
+later = packet 4 (motions 1 3) ∷ remove 4 ∷ add 4 mouse ∷ packet 4 (motions 2 4) ∷ replicate 11 step
 
 -- The first packet takes 34 records after the two of the switch-on, so the second, of 33, is refused.
 abbrev pub calls : List Call
-calls = packet (motions 32 1) ∷ packet (motions 32 2) ∷ replicate 37 step ++ later
+calls = packet 4 (motions 32 1) ∷ packet 4 (motions 32 2) ∷ replicate 37 step ++ later
 
 abbrev pub items : List Item
 items =
@@ -68,7 +70,7 @@ items =
 
 -- The run is one that demand 3 speaks of, and this is its log.
 pub record Example : Type 0 where
-  pub is-fresh : IsFresh (before .driver)
+  pub is-fresh : IsFresh (before .collector)
   pub is-on : start .device .on ≡ true
   pub is-allowed : AllAllowed small start calls
   pub is-received : received (logOf small start calls) ≡ items

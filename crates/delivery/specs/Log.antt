@@ -3,11 +3,10 @@ use Prim.Native.Nat.{ℕ}
 use mathlib.Core.Bool.{Bool, true, false, cond}
 use mathlib.Core.List.{List, [], _∷_, _++_}
 use lib.Dec.{eqb}
-use lib.ListN.{take}
 use Rattle.answers.specs.Answers.{done, noRoom, nothingToRead}
 use Rattle.geometry.specs.declared.Geometry.{Geometry}
 use Rattle.records.specs.declared.Event.{Event}
-use Rattle.assembly.specs.declared.Stepped.{Stepped}
+use Rattle.records.specs.Event.{eventsFrom}
 use Rattle.assembly.specs.declared.Told.{Told}
 use Rattle.assembly.specs.declared.Told.the-variants as told
 use Rattle.assembly.specs.Transition.{answerOf}
@@ -36,24 +35,21 @@ pub data Item : Type 0 where
 
 -- ---- received: the gaps and packets that steps answered
 
-abbrev pub toldBy : Told → List Event → List Item
-toldBy (told.Refused number) events = []
-toldBy told.Nothing events = []
-toldBy told.Gap events = gap ∷ []
-toldBy told.EmptyReport events = []
-toldBy (told.Packet slot count) events = whole slot (take count events) ∷ []
-toldBy (told.Set slot) events = []
-toldBy (told.Conf slot) events = []
-toldBy (told.Reset slot) events = []
-toldBy told.ResetAll events = []
-
-abbrev pub heard : Stepped → List Item
-heard result = toldBy (result .told) (result .driver .events)
+abbrev pub toldBy : Told → List ℕ → List Item
+toldBy (told.Refused number) buffer = []
+toldBy told.Nothing buffer = []
+toldBy told.Gap buffer = gap ∷ []
+toldBy told.EmptyReport buffer = []
+toldBy (told.Packet slot count) buffer = whole slot (eventsFrom buffer 0 count) ∷ []
+toldBy (told.Set slot) buffer = []
+toldBy (told.Conf slot) buffer = []
+toldBy (told.Reset slot) buffer = []
+toldBy told.ResetAll buffer = []
 
 abbrev pub heardIn : Answer → List Item
 heardIn (numbered n) = []
 heardIn (valued v) = []
-heardIn (stepped result) = heard result
+heardIn (stepped result buffer) = toldBy (result .told) buffer
 
 abbrev pub received : List Entry → List Item
 received [] = []
@@ -67,7 +63,7 @@ gapIf refused = cond refused (gap ∷ []) []
 abbrev pub numberIn : Answer → ℕ
 numberIn (numbered n) = n
 numberIn (valued v) = v .answer
-numberIn (stepped result) = answerOf (result .told)
+numberIn (stepped result buffer) = answerOf (result .told)
 
 -- `refused`: a packet was refused for room since the one accepted before, or since switch-on.
 abbrev pub sentBy : Bool → Call → ℕ → List Item
@@ -75,7 +71,7 @@ sentBy refused (read offset width) n = []
 sentBy refused (write offset width value) n = []
 sentBy refused (add slot entry) n = []
 sentBy refused (remove slot) n = []
-sentBy refused (packet new) n = cond (eqb n done) (gapIf refused ++ (whole (new .slot) (eventsOf new) ∷ [])) []
+sentBy refused (packet slot events) n = cond (eqb n done) (gapIf refused ++ (whole slot (eventsOf events) ∷ [])) []
 sentBy refused step n = []
 
 abbrev pub refusedAfter : Bool → Call → ℕ → Bool
@@ -83,7 +79,7 @@ refusedAfter refused (read offset width) n = refused
 refusedAfter refused (write offset width value) n = refused
 refusedAfter refused (add slot entry) n = refused
 refusedAfter refused (remove slot) n = refused
-refusedAfter refused (packet new) n = cond (eqb n done) false (cond (eqb n noRoom) true refused)
+refusedAfter refused (packet slot events) n = cond (eqb n done) false (cond (eqb n noRoom) true refused)
 refusedAfter refused step n = refused
 
 abbrev pub sentFrom : Bool → List Entry → List Item
@@ -101,7 +97,7 @@ isDry (read offset width) n = false
 isDry (write offset width value) n = false
 isDry (add slot entry) n = false
 isDry (remove slot) n = false
-isDry (packet new) n = false
+isDry (packet slot events) n = false
 isDry step n = eqb n nothingToRead
 
 abbrev pub endsDryFrom : Bool → List Entry → Bool

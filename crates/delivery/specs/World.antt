@@ -3,12 +3,11 @@ use Prim.Native.Nat.{ℕ}
 use mathlib.Core.List.{List}
 use lib.ListN.{length}
 use Rattle.geometry.specs.declared.Geometry.{Geometry}
-use Rattle.assembly.specs.declared.Driver.{Driver}
+use Rattle.assembly.specs.Collect.{Collector}
 use Rattle.assembly.specs.declared.Stepped.{Stepped}
 use Rattle.driver.specs.Step.{stepOf}
 use Rattle.device.specs.declared.Device.{Device}
 use Rattle.device.specs.declared.Outcome.{Outcome}
-use Rattle.packets.specs.declared.Packet.{Packet}
 use Rattle.packets.specs.Rule.{packetOf}
 use Rattle.hotplug.specs.Add.{addOf}
 use Rattle.hotplug.specs.Remove.{removeOf}
@@ -20,7 +19,7 @@ pub record World : Type 0 where
   pub device : Device
   pub area : List ℕ
   pub page : List ℕ
-  pub driver : Driver
+  pub collector : Collector
 
 -- A call with its arguments.
 pub data Call : Type 0 where
@@ -28,14 +27,14 @@ pub data Call : Type 0 where
   write : (offset width value : ℕ) → Call
   add : (slot : ℕ) → (entry : List ℕ) → Call
   remove : (slot : ℕ) → Call
-  packet : Packet → Call
+  packet : (slot : ℕ) → (events : List ℕ) → Call
   step : Call
 
--- What a call answers.
+-- What a call answers. A step also leaves its packet in the lent buffer.
 pub data Answer : Type 0 where
   numbered : ℕ → Answer
   valued : Value → Answer
-  stepped : Stepped → Answer
+  stepped : Stepped → (packet : List ℕ) → Answer
 
 pub record Result : Type 0 where
   pub answer : Answer
@@ -45,7 +44,7 @@ pub record Result : Type 0 where
 abbrev pub leaves : World → Outcome → List ℕ → List ℕ → Result
 leaves world outcome area page = record {
   answer = numbered (outcome .answer);
-  world = record { device = outcome .device; area = area; page = page; driver = world .driver };
+  world = record { device = outcome .device; area = area; page = page; collector = world .collector };
 }
 
 -- Each call is what the contract of its function says.
@@ -63,12 +62,17 @@ call geometry world (add slot entry) =
 call geometry world (remove slot) =
     let removed = removeOf geometry (world .device) (world .area) (world .page) slot in
     leaves world (removed .outcome) (removed .area) (removed .page)
-call geometry world (packet new) =
-    let put = packetOf geometry (world .device) (world .area) (world .page) new in
+call geometry world (packet slot events) =
+    let put = packetOf geometry (world .device) (world .area) (world .page) slot events in
     leaves world (put .outcome) (put .area) (world .page)
 call geometry world step =
-    let result = stepOf geometry (world .driver) (world .area) in
+    let result = stepOf geometry (world .collector .driver) (world .area) (world .collector .packet) in
     record {
-      answer = stepped (result .stepped);
-      world = record { device = world .device; area = result .area; page = world .page; driver = result .stepped .driver };
+      answer = stepped (result .stepped) (result .packet);
+      world = record {
+        device = world .device;
+        area = result .area;
+        page = world .page;
+        collector = record { driver = result .stepped .driver; packet = result .packet };
+      };
     }

@@ -47,4 +47,4 @@ currentRule device = eqb (device .«current_slot») noSlot || isTaken device (de
 
 unfoldable pub isDevice : Geometry → Device → Bool
 isDevice geometry device =
-    writeIndexRule geometry device && (clientRevRule device && (takenRule geometry device && currentRule device))
+    writeIndexRule geometry device && (takenRule geometry device && (clientRevRule device && currentRule device))

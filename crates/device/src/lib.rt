@@ -6,13 +6,12 @@ use geometry::Geometry;
 use geometry::Ring;
 use records::codes::NO_SLOT;
 ghost use mathlib.Core.Path.{_≡_};
-ghost use mathlib.Core.Bool.{true};
+ghost use mathlib.Core.Bool.{_&&_};
 ghost use Prim.Native.Nat.{_<_};
 ghost use lib.ListN.{length};
-ghost use Rattle.geometry.specs.Geometry.{allowed};
-ghost use Rattle.device.specs.State.{freshDevice, isTaken, clientRevRule, currentRule, isDevice};
+ghost use Rattle.device.specs.State.{freshDevice, isTaken, clientRevRule, currentRule};
 ghost use Rattle.records.specs.Ring.{Holds};
-ghost use Rattle.device.specs.Call.{isCall};
+ghost use Rattle.device.specs.Call.{isSized, isFitting, isCall};
 ghost use Rattle.device.specs.Room.{roomRefusal};
 
 // Taken slots are a mask, slot 0 its lowest bit, so that a call's cost doesn't grow with the slots.
@@ -78,26 +77,18 @@ fn keeps_current_rule(device: Device) -> bool
     is_taken(device, device.current_slot)
 }
 
-fn is_device(geometry: Geometry, device: Device) -> bool
-    requires { ⌜ allowed geometry ≡ true ⌝ }
-    ensures { λ r. ⌜ r ≡ isDevice geometry device ⌝ }
+// The rules of the state that no size decides.
+pub fn keeps_rules(device: Device) -> bool
+    ensures { λ r. ⌜ r ≡ (clientRevRule device && currentRule device) ⌝ }
 {
-    let ring = geometry::ring_of(geometry);
-    if device.write_index >= ring.length {
-        return false;
-    }
     if !keeps_client_rev_rule(device) {
-        return false;
-    }
-    if !bits::is_below(device.taken, geometry::slot_count(geometry)) {
         return false;
     }
     keeps_current_rule(device)
 }
 
-// Whether a call's geometry, lent lengths and state are right.
-pub fn is_call(geometry: Geometry, device: Device, area_size: usize, page_size: usize) -> bool
-    ensures { λ r. ⌜ r ≡ isCall geometry device «area_size» «page_size» ⌝ }
+fn is_sized(geometry: Geometry, area_size: usize, page_size: usize) -> bool
+    ensures { λ r. ⌜ r ≡ isSized geometry «area_size» «page_size» ⌝ }
 {
     if !geometry::is_allowed(geometry) {
         return false;
@@ -105,10 +96,39 @@ pub fn is_call(geometry: Geometry, device: Device, area_size: usize, page_size: 
     if area_size != geometry::area_length(geometry) {
         return false;
     }
-    if page_size != geometry::PAGE_LENGTH {
+    page_size == geometry::PAGE_LENGTH
+}
+
+// All that the geometry bounds. It takes numbers alone, so that the state isn't copied for it.
+pub fn is_fitting(
+    geometry: Geometry,
+    area_size: usize,
+    page_size: usize,
+    write_index: u32,
+    taken: u64,
+) -> bool
+    ensures { λ r. ⌜ r ≡ isFitting geometry «area_size» «page_size» «write_index» taken ⌝ }
+{
+    if !is_sized(geometry, area_size, page_size) {
         return false;
     }
-    is_device(geometry, device)
+    let ring = geometry::ring_of(geometry);
+    if write_index >= ring.length {
+        return false;
+    }
+    bits::is_below(taken, geometry::slot_count(geometry))
+}
+
+// Whether a call's geometry, lent lengths and state are right.
+pub fn is_call(geometry: Geometry, device: Device, area_size: usize, page_size: usize) -> bool
+    ensures { λ r. ⌜ r ≡ isCall geometry device «area_size» «page_size» ⌝ }
+{
+    let index = device.write_index;
+    let taken = device.taken;
+    if !is_fitting(geometry, area_size, page_size, index, taken) {
+        return false;
+    }
+    keeps_rules(device)
 }
 
 // READ_PTR is fetched once: what was tested is what the room is counted from.

@@ -28,14 +28,14 @@ isMalformed BadDevSet driver = true
 isMalformed BadDev driver = true
 isMalformed Other driver = false
 
-abbrev pub stepRefusals : Geometry → Driver → List ℕ → List (Bool × ℕ)
-stepRefusals geometry driver area =
-    (not (isValid geometry driver (length area)), invalid)
+abbrev pub stepRefusals : Geometry → Driver → List ℕ → List ℕ → List (Bool × ℕ)
+stepRefusals geometry driver area packet =
+    (not (isValid geometry driver (length area) (length packet)), invalid)
     ∷ (leb (ringLength geometry) (readPointer area), badIndex)
     ∷ (leb (ringLength geometry) (writePointer area), badIndex)
     ∷ (eqb (readPointer area) (writePointer area), nothingToRead)
     ∷ (isMalformed (kindOf geometry (recordAt (ringOf geometry) area (readPointer area))) driver, malformed)
     ∷ []
 
-abbrev pub stepAnswer : Geometry → Driver → List ℕ → ℕ
-stepAnswer geometry driver area = firstRefusal (stepRefusals geometry driver area)
+abbrev pub stepAnswer : Geometry → Driver → List ℕ → List ℕ → ℕ
+stepAnswer geometry driver area packet = firstRefusal (stepRefusals geometry driver area packet)

@@ -23,23 +23,39 @@ fn smaller(left: usize, right: usize) -> usize
     right
 }
 
-// Copies the first eight bytes of so many records from an index on, and answers the index after them.
-fn copy_records(ring: Ring, area: &[u8], first: u32, count: usize, out: &mut [u8]) -> u32
+// Copies the first eight bytes of so many records, none of them past the ring's end: each begins one record after the last.
+fn copy_run(ring: Ring, area: &[u8], first: u32, count: usize, out: &mut [u8])
     requires { ⌜ Holds (length (now area)) ring ⌝ }
-    requires { ⌜ (first < ring .length) × (count * 8 ≤ length (now out)) ⌝ }
-    ensures { λ r. ⌜ (r ≡ (first + count) % ring .length) × (now (out .exit) ≡ overwrite (now (out .entry)) 0 (bytesFrom ring (now (area .entry)) first count)) ⌝ }
+    requires { ⌜ (first + count ≤ ring .length) × (count * 8 ≤ length (now out)) ⌝ }
+    ensures { λ _. ⌜ now (out .exit) ≡ overwrite (now (out .entry)) 0 (bytesFrom ring (now (area .entry)) first count) ⌝ }
 {
-    let mut index = first;
+    let mut place = geometry::record_place(ring, first);
     let mut at: usize = 0;
     let mut left = count;
     while 0 < left {
-        let place = geometry::record_place(ring, index);
-        words::copy(out, at, &area[place..place + 8]);
-        index = records::next_index(ring, index);
+        words::copy_eight(out, at, &area[place..place + 8]);
+        place += ring.record_size as usize;
         at += 8;
         left -= 1;
     }
-    index
+}
+
+// Copies the records up to the ring's end, then those from its start on, and answers the index after them.
+fn copy_records(ring: Ring, area: &[u8], first: u32, count: usize, out: &mut [u8]) -> u32
+    requires { ⌜ Holds (length (now area)) ring ⌝ }
+    requires { ⌜ (first < ring .length) × (count < ring .length) × (count * 8 ≤ length (now out)) ⌝ }
+    ensures { λ r. ⌜ (r ≡ (first + count) % ring .length) × (now (out .exit) ≡ overwrite (now (out .entry)) 0 (bytesFrom ring (now (area .entry)) first count)) ⌝ }
+{
+    let until = (ring.length - first) as usize;
+    if count < until {
+        copy_run(ring, area, first, count, out);
+        return first + count as u32;
+    }
+    let rest = count - until;
+    copy_run(ring, area, first, until, out);
+    let at = until * 8;
+    copy_run(ring, area, 0, rest, &mut out[at..at + rest * 8]);
+    rest as u32
 }
 
 fn refused(answer: u8) -> Copied

@@ -6,8 +6,10 @@ use answers::DONE;
 use answers::INVALID;
 use answers::NOTHING_TO_READ;
 use assembly::Driver;
+use assembly::PACKET_LENGTH;
 use assembly::Stepped;
 use assembly::Told;
+use assembly::collect;
 use assembly::receive;
 pub use copy::copy_out;
 use geometry::Geometry;
@@ -64,10 +66,13 @@ pub(crate) fn is_sized(geometry: Geometry, size: usize) -> bool
     size == geometry::area_length(geometry)
 }
 
-fn is_valid(geometry: Geometry, driver: Driver, size: usize) -> bool
-    ensures { λ r. ⌜ r ≡ isValid geometry driver size ⌝ }
+fn is_valid(geometry: Geometry, driver: Driver, area_size: usize, packet_size: usize) -> bool
+    ensures { λ r. ⌜ r ≡ isValid geometry driver «area_size» «packet_size» ⌝ }
 {
-    if !is_sized(geometry, size) {
+    if !is_sized(geometry, area_size) {
+        return false;
+    }
+    if packet_size != PACKET_LENGTH {
         return false;
     }
     is_driver(geometry, driver)
@@ -113,12 +118,14 @@ fn refusal_of(oldest: Oldest) -> u8
     }
 }
 
-pub fn step(geometry: Geometry, driver: Driver, area: &mut [u8]) -> Stepped
-    ensures { λ r. ⌜ r ≡ stepOf geometry driver (now (area .entry)) .stepped ⌝ }
-    ensures { λ r. ⌜ now (area .exit) ≡ stepOf geometry driver (now (area .entry)) .area ⌝ }
-    ensures { λ r. ⌜ answerOf (r .told) ≡ stepAnswer geometry driver (now (area .entry)) ⌝ }
+// Reads one record. An event that joins the packet is written behind those before it.
+pub fn step(geometry: Geometry, driver: Driver, area: &mut [u8], packet: &mut [u8]) -> Stepped
+    ensures { λ r. ⌜ r ≡ stepOf geometry driver (now (area .entry)) (now (packet .entry)) .stepped ⌝ }
+    ensures { λ r. ⌜ now (area .exit) ≡ stepOf geometry driver (now (area .entry)) (now (packet .entry)) .area ⌝ }
+    ensures { λ r. ⌜ now (packet .exit) ≡ stepOf geometry driver (now (area .entry)) (now (packet .entry)) .packet ⌝ }
+    ensures { λ r. ⌜ answerOf (r .told) ≡ stepAnswer geometry driver (now (area .entry)) (now (packet .entry)) ⌝ }
 {
-    if !is_valid(geometry, driver, area.len()) {
+    if !is_valid(geometry, driver, area.len(), packet.len()) {
         return Stepped {
             told: Told::Refused(INVALID),
             driver: driver,
@@ -135,5 +142,8 @@ pub fn step(geometry: Geometry, driver: Driver, area: &mut [u8]) -> Stepped
     };
     let next = records::next_index(ring, index);
     records::set_read_pointer(area, next);
-    receive(geometry, driver, event)
+    let result = receive(geometry, driver, event);
+    let after = result.driver;
+    collect(driver, after, event, packet);
+    result
 }

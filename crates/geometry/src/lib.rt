@@ -2,8 +2,10 @@
 // numbers are needed at every call.
 ghost use mathlib.Core.Path.{_≡_};
 ghost use mathlib.Core.Bool.{true};
-ghost use Prim.Native.Nat.{_-_, _*_, _/_, _≤_};
+ghost use Prim.Native.Nat.{_-_, _*_, _/_, _≤_, _<_};
 ghost use lib.Dec.{ltb};
+ghost use lib.ListN.{getD};
+ghost use Rattle.geometry.specs.SlotWords.{slotWords};
 ghost use Rattle.geometry.specs.Geometry.{isRecordSize, isEntrySize, allowed, areaLength, barLength, ringLength, ringOf, recordPlace, slotCount, entryPlace};
 
 pub const PAGE_LENGTH: usize = 4096;
@@ -105,77 +107,36 @@ pub fn record_place(ring: Ring, index: u32) -> usize
     ring.record_size as usize * (index as usize + 1)
 }
 
-fn widen(byte: u8) -> u32
-    ensures { λ r. ⌜ r ≡ byte ⌝ }
+// How many entries of 68, 72, .. 256 bytes a page holds: a byte for each size, eight to a word, the smallest size lowest. An array
+// would be built anew at each call.
+fn slots_of_eight(word: u32) -> u64
+    requires { ⌜ word < 6 ⌝ }
+    ensures { λ r. ⌜ r ≡ getD slotWords word 0 ⌝ }
 {
-    byte as u32
+    match word {
+        0 => 0x2A2C_2E30_3335_383C,
+        1 => 0x2021_2223_2425_2728,
+        2 => 0x191A_1A1B_1C1D_1E1F,
+        3 => 0x1515_1616_1717_1818,
+        4 => 0x1212_1213_1314_1414,
+        _ => 0x1010_1010_1111_1111,
+    }
 }
-
-// How many entries of 68, 72, .. 256 bytes a page holds.
-const SLOTS: [u8; 48] = [
-    60,
-    56,
-    53,
-    51,
-    48,
-    46,
-    44,
-    42,
-    40,
-    39,
-    37,
-    36,
-    35,
-    34,
-    33,
-    32,
-    31,
-    30,
-    29,
-    28,
-    27,
-    26,
-    26,
-    25,
-    24,
-    24,
-    23,
-    23,
-    22,
-    22,
-    21,
-    21,
-    20,
-    20,
-    20,
-    19,
-    19,
-    18,
-    18,
-    18,
-    17,
-    17,
-    17,
-    17,
-    16,
-    16,
-    16,
-    16,
-];
 
 pub fn slot_count(geometry: Geometry) -> u32
     requires { ⌜ allowed geometry ≡ true ⌝ }
     ensures { λ r. ⌜ r ≡ slotCount geometry ⌝ }
 {
     let size = (geometry.entry_size - 68) / 4;
-    widen(SLOTS[size as usize])
+    ((slots_of_eight(size / 8) >> (size % 8 * 8)) % 256) as u32
 }
 
+// The slot's entry ends within the page.
 pub fn is_slot(geometry: Geometry, slot: u32) -> bool
     requires { ⌜ allowed geometry ≡ true ⌝ }
     ensures { λ r. ⌜ r ≡ ltb slot (slotCount geometry) ⌝ }
 {
-    slot < slot_count(geometry)
+    geometry.entry_size as u64 * (slot as u64 + 1) <= 4096
 }
 
 pub fn entry_place(geometry: Geometry, slot: u32) -> usize

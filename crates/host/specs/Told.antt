@@ -47,8 +47,8 @@ countOf told.ResetAll = 0
 abbrev pub numbersOf : Told → StepAnswer
 numbersOf what = record { answer = answerOf what; what = whatOf what; slot = slotOf what; count = countOf what }
 
-abbrev pub steppedOf : Geometry → Driver → List ℕ → StepOutcome
-steppedOf geometry driver area = record {
-  answer = numbersOf (stepOf geometry driver area .stepped .told);
-  driver = stepOf geometry driver area .stepped .driver;
+abbrev pub steppedOf : Geometry → Driver → List ℕ → List ℕ → StepOutcome
+steppedOf geometry driver area packet = record {
+  answer = numbersOf (stepOf geometry driver area packet .stepped .told);
+  driver = stepOf geometry driver area packet .stepped .driver;
 }

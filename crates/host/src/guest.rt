@@ -58,10 +58,10 @@ fn numbers(told: Told) -> StepAnswer
     }
 }
 
-fn step_rule(driver: Driver, geometry: Geometry, area: &mut [u8]) -> StepOutcome
-    ensures { λ r. ⌜ (r ≡ steppedOf geometry driver (now (area .entry))) × (now (area .exit) ≡ stepOf geometry driver (now (area .entry)) .area) ⌝ }
+fn step_rule(driver: Driver, geometry: Geometry, area: &mut [u8], packet: &mut [u8]) -> StepOutcome
+    ensures { λ r. ⌜ (r ≡ steppedOf geometry driver (now (area .entry)) (now (packet .entry))) × ((now (area .exit) ≡ stepOf geometry driver (now (area .entry)) (now (packet .entry)) .area) × (now (packet .exit) ≡ stepOf geometry driver (now (area .entry)) (now (packet .entry)) .packet)) ⌝ }
 {
-    let result = driver::step(geometry, driver, area);
+    let result = driver::step(geometry, driver, area, packet);
     let told = result.told;
     let after = result.driver;
     StepOutcome {
@@ -82,10 +82,11 @@ pub extern "C" fn thayarqo_step(
     driver: &mut Driver,
     geometry: Geometry,
     area: &mut [u8],
+    packet: &mut [u8],
 ) -> StepAnswer
-    ensures { λ r. ⌜ (r ≡ steppedOf geometry (now (driver .entry)) (now (area .entry)) .answer) × (now (driver .exit) ≡ steppedOf geometry (now (driver .entry)) (now (area .entry)) .driver) × (now (area .exit) ≡ stepOf geometry (now (driver .entry)) (now (area .entry)) .area) ⌝ }
+    ensures { λ r. ⌜ (r ≡ steppedOf geometry (now (driver .entry)) (now (area .entry)) (now (packet .entry)) .answer) × (now (driver .exit) ≡ steppedOf geometry (now (driver .entry)) (now (area .entry)) (now (packet .entry)) .driver) × (now (area .exit) ≡ stepOf geometry (now (driver .entry)) (now (area .entry)) (now (packet .entry)) .area) × (now (packet .exit) ≡ stepOf geometry (now (driver .entry)) (now (area .entry)) (now (packet .entry)) .packet) ⌝ }
 {
-    let out = step_rule(*driver, geometry, area);
+    let out = step_rule(*driver, geometry, area, packet);
     *driver = out.driver;
     out.answer
 }

@@ -7,7 +7,6 @@ mod settings;
 use assembly::Driver;
 use device::Device;
 use geometry::Geometry;
-use packets::Packet;
 use registers::Value;
 ghost use mathlib.Core.Path.{_≡_};
 ghost use lib.ListN.{length};
@@ -43,16 +42,16 @@ pub extern "C" fn thayarqo_fresh_device() -> Device
 
 #[no_mangle]
 pub extern "C" fn thayarqo_read(
-    device: Device,
+    device: &Device,
     geometry: Geometry,
     area: &[u8],
     page: &[u8],
     offset: u64,
     width: u32,
 ) -> Value
-    ensures { λ r. ⌜ r ≡ readOf geometry device (now (area .entry)) (now (page .entry)) offset width ⌝ }
+    ensures { λ r. ⌜ r ≡ readOf geometry (now (device .entry)) (now (area .entry)) (now (page .entry)) offset width ⌝ }
 {
-    registers::read_rule(device, geometry, area, page, offset, width)
+    registers::read_rule(*device, geometry, area, page, offset, width)
 }
 
 #[no_mangle]
@@ -78,11 +77,12 @@ pub extern "C" fn thayarqo_put_packet(
     geometry: Geometry,
     area: &mut [u8],
     page: &[u8],
-    packet: Packet,
+    slot: u32,
+    packet: &[u8],
 ) -> u8
-    ensures { λ r. ⌜ (r ≡ packetOf geometry (now (device .entry)) (now (area .entry)) (now (page .entry)) packet .outcome .answer) × (now (device .exit) ≡ packetOf geometry (now (device .entry)) (now (area .entry)) (now (page .entry)) packet .outcome .device) × (now (area .exit) ≡ packetOf geometry (now (device .entry)) (now (area .entry)) (now (page .entry)) packet .area) ⌝ }
+    ensures { λ r. ⌜ (r ≡ packetOf geometry (now (device .entry)) (now (area .entry)) (now (page .entry)) slot (now (packet .entry)) .outcome .answer) × (now (device .exit) ≡ packetOf geometry (now (device .entry)) (now (area .entry)) (now (page .entry)) slot (now (packet .entry)) .outcome .device) × (now (area .exit) ≡ packetOf geometry (now (device .entry)) (now (area .entry)) (now (page .entry)) slot (now (packet .entry)) .area) ⌝ }
 {
-    let out = packets::packet_rule(*device, geometry, area, page, packet);
+    let out = packets::packet_rule(*device, geometry, area, page, slot, packet);
     *device = out.device;
     out.answer
 }

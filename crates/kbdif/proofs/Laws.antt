@@ -1,3 +1,4 @@
 pub mod Page
+pub mod Store
 pub mod Put
 pub mod Take

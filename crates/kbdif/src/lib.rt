@@ -104,12 +104,16 @@ fn put_refusal(page: &[u8], in_prod: u32, contact_limit: u32, event: &[u8]) -> u
     DONE
 }
 
-// Fills an event's place.
+// Fills an event's place, eight bytes at a time.
 fn store(place: &mut [u8], event: &[u8])
     requires { ⌜ (length (now place) ≡ eventLength) × (length (now event) ≡ eventLength) ⌝ }
     ensures { λ _. ⌜ now (place .exit) ≡ now (event .entry) ⌝ }
 {
-    bytes::copy(event, place);
+    let mut at: usize = 0;
+    while at < EVENT_LENGTH {
+        words::copy_eight(place, at, &event[at..at + 8]);
+        at += 8;
+    }
 }
 
 // The back end's call. Its own index is the private one, never that of the page.

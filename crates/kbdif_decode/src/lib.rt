@@ -14,7 +14,7 @@ use kbdif_events::SYN;
 use kbdif_events::UP;
 ghost use mathlib.Core.Path.{_≡_};
 ghost use Prim.Native.Nat.{_+_, _≤_};
-ghost use lib.ListN.{length};
+ghost use lib.ListN.{length, drop};
 ghost use Rattle.answers.specs.Refusals.{firstRefusal};
 ghost use Rattle.kbdif_events.specs.Event.{eventLength, contactOf};
 ghost use Rattle.kbdif_decode.specs.Decode.{i32At, touchAt, eventAt, extent, extentOf, allZero, reservedIsZero, pressedAboveOne, eventRefusals, numberOf, decoded};
@@ -135,10 +135,12 @@ fn contact_of(event: RingEvent) -> u8
     }
 }
 
-fn is_zero(stretch: &[u8]) -> bool
+// The bytes from one on, where all before it are zero.
+fn rest_is_zero(stretch: &[u8], from: usize) -> bool
+    requires { ⌜ (from ≤ length (now stretch)) × (allZero (drop from (now stretch)) ≡ allZero (now stretch)) ⌝ }
     ensures { λ r. ⌜ r ≡ allZero (now (stretch .entry)) ⌝ }
 {
-    let mut i: usize = 0;
+    let mut i = from;
     while i < stretch.len() {
         if stretch[i] != 0 {
             return false;
@@ -146,6 +148,20 @@ fn is_zero(stretch: &[u8]) -> bool
         i += 1;
     }
     true
+}
+
+// Four bytes at a time, as long as there are four.
+fn is_zero(stretch: &[u8]) -> bool
+    ensures { λ r. ⌜ r ≡ allZero (now (stretch .entry)) ⌝ }
+{
+    let mut i: usize = 0;
+    while stretch.len() - i >= 4 {
+        if words::read_u32(stretch, i) != 0 {
+            return false;
+        }
+        i += 4;
+    }
+    rest_is_zero(stretch, i)
 }
 
 fn reserved_is_zero(bytes: &[u8], event: RingEvent) -> bool

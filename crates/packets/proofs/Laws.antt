@@ -1,3 +1,4 @@
+pub mod Events
 pub mod Offer
 pub mod Put
 pub mod Rule

@@ -1,8 +1,8 @@
 -- What becomes of a packet (01, "Numbers a caller can get"): 1, 5, 6, 9, 8, 10, 7; then it is put whole.
 use Prim.Native.Nat.{ℕ}
-use mathlib.Core.Bool.{Bool, true, false, not, _||_, cond}
-use mathlib.Core.List.{List, [], _∷_}
-use lib.Dec.{leb, ltb, eqb}
+use mathlib.Core.Bool.{Bool, true, false, not, _&&_, _||_, cond}
+use mathlib.Core.List.{List, _∷_}
+use lib.Dec.{ltb, eqb}
 use lib.ListN.{length}
 use Rattle.answers.specs.Answers.{done, invalid, deviceOff, badSlot, noRoom, notOffered, malformed, badIndex}
 use Rattle.answers.specs.Refusals.{firstRefusal}
@@ -15,21 +15,20 @@ use Rattle.device.specs.declared.Outcome.{Outcome}
 use Rattle.device.specs.State.{isTaken}
 use Rattle.device.specs.Call.{isCall}
 use Rattle.device.specs.Room.{roomRefusals}
-use Rattle.packets.specs.declared.Packet.{Packet}
-use Rattle.packets.specs.Packet.{eventsOf, packetRecords, allOffered}
+use Rattle.packets.specs.Packet.{eventCount, isWhole, eventsOf, packetRecords, allOffered}
 
-abbrev pub packetRefusals : Geometry → Device → List ℕ → List ℕ → Packet → List (Bool × ℕ)
-packetRefusals geometry device area page packet =
-    (not (isCall geometry device (length area) (length page)), invalid)
+abbrev pub packetRefusals : Geometry → Device → List ℕ → List ℕ → ℕ → List ℕ → List (Bool × ℕ)
+packetRefusals geometry device area page slot packet =
+    (not (isCall geometry device (length area) (length page) && isWhole (length packet)), invalid)
     ∷ (not (device .on), deviceOff)
-    ∷ (not (isTaken device (packet .slot)), badSlot)
-    ∷ (ltb (packet .count) 1, malformed)
-    ∷ (ltb 32 (packet .count), malformed)
-    ∷ (not (allOffered (entryAt geometry page (packet .slot)) (eventsOf packet)), notOffered)
-    ∷ roomRefusals (ringOf geometry) area (device .«write_index») (length (packetRecords device packet))
+    ∷ (not (isTaken device slot), badSlot)
+    ∷ (ltb (eventCount packet) 1, malformed)
+    ∷ (ltb 32 (eventCount packet), malformed)
+    ∷ (not (allOffered (entryAt geometry page slot) (eventsOf packet)), notOffered)
+    ∷ roomRefusals (ringOf geometry) area (device .«write_index») (length (packetRecords device slot packet))
 
-unfoldable pub packetAnswer : Geometry → Device → List ℕ → List ℕ → Packet → ℕ
-packetAnswer geometry device area page packet = firstRefusal (packetRefusals geometry device area page packet)
+unfoldable pub packetAnswer : Geometry → Device → List ℕ → List ℕ → ℕ → List ℕ → ℕ
+packetAnswer geometry device area page slot packet = firstRefusal (packetRefusals geometry device area page slot packet)
 
 -- The lost mark set.
 abbrev pub withLost : Device → Device
@@ -68,16 +67,16 @@ pub record PacketResult : Type 0 where
   pub area : List ℕ
 
 -- A packet refused with 10 or 7 sets the lost mark; no other refusal changes anything.
-unfoldable pub packetOf : Geometry → Device → List ℕ → List ℕ → Packet → PacketResult
-packetOf geometry device area page packet =
-    cond (eqb (packetAnswer geometry device area page packet) done)
+unfoldable pub packetOf : Geometry → Device → List ℕ → List ℕ → ℕ → List ℕ → PacketResult
+packetOf geometry device area page slot packet =
+    cond (eqb (packetAnswer geometry device area page slot packet) done)
     (record {
       outcome = record {
         answer = done;
-        device = afterPacket (packet .slot) (indexAfter (ringOf geometry) (device .«write_index») (packetRecords device packet)) device;
+        device = afterPacket slot (indexAfter (ringOf geometry) (device .«write_index») (packetRecords device slot packet)) device;
       };
-      area = putRecords (ringOf geometry) (device .«write_index») (packetRecords device packet) area;
+      area = putRecords (ringOf geometry) (device .«write_index») (packetRecords device slot packet) area;
     })
-    (cond (eqb (packetAnswer geometry device area page packet) badIndex || eqb (packetAnswer geometry device area page packet) noRoom)
-    (record { outcome = lostOutcome (packetAnswer geometry device area page packet) device; area = area })
-    (record { outcome = record { answer = packetAnswer geometry device area page packet; device = device }; area = area }))
+    (cond (eqb (packetAnswer geometry device area page slot packet) badIndex || eqb (packetAnswer geometry device area page slot packet) noRoom)
+    (record { outcome = lostOutcome (packetAnswer geometry device area page slot packet) device; area = area })
+    (record { outcome = record { answer = packetAnswer geometry device area page slot packet; device = device }; area = area }))

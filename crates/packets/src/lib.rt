@@ -14,31 +14,21 @@ use device::Outcome;
 use geometry::Geometry;
 use put::put_packet;
 use put::record_count;
-use records::Event;
 ghost use mathlib.Core.Path.{_≡_};
-ghost use mathlib.Core.Bool.{_||_};
-ghost use Prim.Native.Nat.{_≤_};
+ghost use mathlib.Core.Bool.{_||_, _&&_};
 ghost use lib.ListN.{length};
-ghost use Rattle.packets.specs.Packet.{eventsOf, allOffered};
+ghost use Rattle.device.specs.Call.{isCall};
+ghost use Rattle.packets.specs.Packet.{isWhole, eventsOf, allOffered};
 ghost use Rattle.packets.specs.Rule.{packetAnswer, lostOutcome, afterPacket, packetOf};
 
-// The first `count` events count.
-#[repr(C)]
-pub struct Packet {
-    pub slot: u32,
-    pub count: u32,
-    pub events: [Event; 32],
-}
-
-fn offers_all(entry: &[u8], packet: Packet) -> bool
-    requires { ⌜ (length (now entry) ≡ 68) × (packet .count ≤ 32) ⌝ }
-    ensures { λ r. ⌜ r ≡ allOffered (now (entry .entry)) (eventsOf packet) ⌝ }
+fn offers_all(entry: &[u8], packet: &[u8]) -> bool
+    requires { ⌜ length (now entry) ≡ 68 ⌝ }
+    ensures { λ r. ⌜ r ≡ allOffered (now (entry .entry)) (eventsOf (now (packet .entry))) ⌝ }
 {
-    let count = packet.count as usize;
+    let count = packet.len() / 8;
     let mut i: usize = 0;
     while i < count {
-        let event = packet.events[i];
-        if !entries::is_offered(entry, event) {
+        if !entries::is_offered(entry, records::decode(packet, i * 8)) {
             return false;
         }
         i += 1;
@@ -46,36 +36,64 @@ fn offers_all(entry: &[u8], packet: Packet) -> bool
     true
 }
 
+// It tests the state's numbers apart from the rest, so that the state isn't copied for a call.
+fn is_whole_call(
+    geometry: Geometry,
+    device: Device,
+    area_size: usize,
+    page_size: usize,
+    packet_size: usize,
+) -> bool
+    ensures { λ r. ⌜ r ≡ (isCall geometry device «area_size» «page_size» && isWhole «packet_size») ⌝ }
+{
+    let index = device.write_index;
+    let taken = device.taken;
+    if !device::is_fitting(geometry, area_size, page_size, index, taken) {
+        return false;
+    }
+    if !device::keeps_rules(device) {
+        return false;
+    }
+    packet_size % 8 == 0
+}
+
 fn packet_refusal(
     geometry: Geometry,
     device: Device,
     area: &[u8],
     page: &[u8],
-    packet: Packet,
+    slot: u32,
+    packet: &[u8],
 ) -> u8
-    ensures { λ r. ⌜ r ≡ packetAnswer geometry device (now (area .entry)) (now (page .entry)) packet ⌝ }
+    ensures { λ r. ⌜ r ≡ packetAnswer geometry device (now (area .entry)) (now (page .entry)) slot (now (packet .entry)) ⌝ }
 {
-    if !device::is_call(geometry, device, area.len(), page.len()) {
+    if !is_whole_call(geometry, device, area.len(), page.len(), packet.len()) {
         return INVALID;
     }
     if !device.on {
         return DEVICE_OFF;
     }
-    if !device::is_taken(device, packet.slot) {
+    if !device::is_taken(device, slot) {
         return BAD_SLOT;
     }
-    if packet.count < 1 {
+    let count = packet.len() / 8;
+    if count < 1 {
         return MALFORMED;
     }
-    if packet.count > 32 {
+    if count > 32 {
         return MALFORMED;
     }
-    let start = geometry::entry_place(geometry, packet.slot);
+    let start = geometry::entry_place(geometry, slot);
     if !offers_all(&page[start..start + entries::KNOWN_LENGTH], packet) {
         return NOT_OFFERED;
     }
-    let count = record_count(device, packet);
-    device::room_refusal(geometry::ring_of(geometry), area, device.write_index, count)
+    let needed = record_count(device, slot, packet);
+    device::room_refusal(
+        geometry::ring_of(geometry),
+        area,
+        device.write_index,
+        needed,
+    )
 }
 
 fn lost(answer: u8, device: Device) -> Outcome
@@ -109,17 +127,18 @@ fn accept(device: Device, slot: u32, index: u32) -> Device
     after
 }
 
-// Refuses in order, tests the room for all records, then puts them.
+// Refuses in order, tests the room for all records, then puts them. The events are lent as bytes, so that none is copied before it is put.
 pub fn packet_rule(
     device: Device,
     geometry: Geometry,
     area: &mut [u8],
     page: &[u8],
-    packet: Packet,
+    slot: u32,
+    packet: &[u8],
 ) -> Outcome
-    ensures { λ r. ⌜ (r ≡ packetOf geometry device (now (area .entry)) (now (page .entry)) packet .outcome) × (now (area .exit) ≡ packetOf geometry device (now (area .entry)) (now (page .entry)) packet .area) ⌝ }
+    ensures { λ r. ⌜ (r ≡ packetOf geometry device (now (area .entry)) (now (page .entry)) slot (now (packet .entry)) .outcome) × (now (area .exit) ≡ packetOf geometry device (now (area .entry)) (now (page .entry)) slot (now (packet .entry)) .area) ⌝ }
 {
-    let refusal = packet_refusal(geometry, device, &area[..], page, packet);
+    let refusal = packet_refusal(geometry, device, &area[..], page, slot, packet);
     match refusal {
         DONE => {}
         BAD_INDEX => return lost(refusal, device),
@@ -132,8 +151,8 @@ pub fn packet_rule(
         }
     }
     let ring = geometry::ring_of(geometry);
-    let index = put_packet(ring, area, device, packet);
-    let after = accept(device, packet.slot, index);
+    let index = put_packet(ring, area, device, slot, packet);
+    let after = accept(device, slot, index);
     Outcome {
         answer: DONE,
         device: after,

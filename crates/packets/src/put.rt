@@ -1,5 +1,4 @@
 // The records of a packet, put one after the other.
-use crate::Packet;
 use device::Device;
 use geometry::Ring;
 use records::codes::DEV_SET;
@@ -12,7 +11,7 @@ ghost use Prim.Native.Nat.{_≤_, _<_};
 ghost use lib.ListN.{length};
 ghost use Rattle.records.specs.Ring.{Holds};
 ghost use Rattle.records.specs.Put.{Put};
-ghost use Rattle.packets.specs.Packet.{eventsOf, lostRecords, setRecords, packetRecords};
+ghost use Rattle.packets.specs.Packet.{eventCount, eventsOf, lostRecords, setRecords, packetRecords};
 
 fn lost_count(lost: bool) -> u32
     ensures { λ r. ⌜ (r ≡ length (lostRecords lost)) × (r ≤ 2) ⌝ }
@@ -32,11 +31,12 @@ fn set_count(current: u32, slot: u32) -> u32
     1
 }
 
-pub(crate) fn record_count(device: Device, packet: Packet) -> u32
-    requires { ⌜ packet .count ≤ 32 ⌝ }
-    ensures { λ r. ⌜ r ≡ length (packetRecords device packet) ⌝ }
+pub(crate) fn record_count(device: Device, slot: u32, packet: &[u8]) -> u32
+    requires { ⌜ eventCount (now packet) ≤ 32 ⌝ }
+    ensures { λ r. ⌜ r ≡ length (packetRecords device slot (now (packet .entry))) ⌝ }
 {
-    lost_count(device.lost) + set_count(device.current_slot, packet.slot) + packet.count + 1
+    let count = (packet.len() / 8) as u32;
+    lost_count(device.lost) + set_count(device.current_slot, slot) + count + 1
 }
 
 fn put_lost(ring: Ring, area: &mut [u8], index: u32, lost: bool) -> u32
@@ -60,26 +60,32 @@ fn put_set(ring: Ring, area: &mut [u8], index: u32, current: u32, slot: u32) -> 
     records::put_record(ring, area, index, dev_record(DEV_SET, slot))
 }
 
-fn put_events(ring: Ring, area: &mut [u8], index: u32, packet: Packet) -> u32
-    requires { ⌜ (Holds (length (now area)) ring) × (index < ring .length) × (packet .count ≤ 32) ⌝ }
-    ensures { λ r. ⌜ Put ring index (eventsOf packet) (now (area .entry)) (now (area .exit)) r ⌝ }
+fn put_events(ring: Ring, area: &mut [u8], index: u32, packet: &[u8]) -> u32
+    requires { ⌜ (Holds (length (now area)) ring) × (index < ring .length) ⌝ }
+    ensures { λ r. ⌜ Put ring index (eventsOf (now (packet .entry))) (now (area .entry)) (now (area .exit)) r ⌝ }
 {
-    let count = packet.count as usize;
+    let count = packet.len() / 8;
     let mut at = index;
     let mut i: usize = 0;
     while i < count {
-        at = records::put_record(ring, area, at, packet.events[i]);
+        at = records::put_record(ring, area, at, records::decode(packet, i * 8));
         i += 1;
     }
     at
 }
 
-pub(crate) fn put_packet(ring: Ring, area: &mut [u8], device: Device, packet: Packet) -> u32
-    requires { ⌜ (Holds (length (now area)) ring) × (device .«write_index» < ring .length) × (packet .count ≤ 32) ⌝ }
-    ensures { λ r. ⌜ Put ring (device .«write_index») (packetRecords device packet) (now (area .entry)) (now (area .exit)) r ⌝ }
+pub(crate) fn put_packet(
+    ring: Ring,
+    area: &mut [u8],
+    device: Device,
+    slot: u32,
+    packet: &[u8],
+) -> u32
+    requires { ⌜ (Holds (length (now area)) ring) × (device .«write_index» < ring .length) ⌝ }
+    ensures { λ r. ⌜ Put ring (device .«write_index») (packetRecords device slot (now (packet .entry))) (now (area .entry)) (now (area .exit)) r ⌝ }
 {
     let set = put_lost(ring, area, device.write_index, device.lost);
-    let first = put_set(ring, area, set, device.current_slot, packet.slot);
+    let first = put_set(ring, area, set, device.current_slot, slot);
     let report = put_events(ring, area, first, packet);
     records::put_record(ring, area, report, syn_record(SYN_REPORT))
 }

@@ -1,5 +1,6 @@
 pub mod Index
 pub mod Event
+pub mod Events
 pub mod Place
 pub mod Put
 pub mod PutAll

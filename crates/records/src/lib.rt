@@ -17,7 +17,7 @@ pub struct Event {
 }
 
 // Fills a record's own eight bytes.
-fn encode(stretch: &mut [u8], event: Event)
+pub fn encode(stretch: &mut [u8], event: Event)
     requires { ⌜ length (now stretch) ≡ 8 ⌝ }
     ensures { λ _. ⌜ now (stretch .exit) ≡ eventBytes event ⌝ }
 {

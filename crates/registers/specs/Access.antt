@@ -12,9 +12,9 @@ use Rattle.device.specs.Call.{isCall}
 use Rattle.registers.specs.Place.{placeOf, isReadOnly, isNothing}
 
 -- Accesses are 4 bytes wide, at a multiple of 4, within the BAR, and at a register; writes not at a read-only place.
-abbrev pub accessRefusals : Geometry → Device → ℕ → ℕ → Bool → ℕ → ℕ → List (Bool × ℕ)
-accessRefusals geometry device areaSize pageSize writes offset width =
-    (not (isCall geometry device areaSize pageSize), invalid)
+abbrev pub accessRefusals : Bool → Geometry → Bool → ℕ → ℕ → List (Bool × ℕ)
+accessRefusals called geometry writes offset width =
+    (not called, invalid)
     ∷ (not (eqb width 4), badAccess)
     ∷ (not (eqb (offset % 4) 0), badAccess)
     ∷ (leb (barLength geometry) offset, badAccess)
@@ -24,4 +24,4 @@ accessRefusals geometry device areaSize pageSize writes offset width =
 
 unfoldable pub accessAnswer : Geometry → Device → ℕ → ℕ → Bool → ℕ → ℕ → ℕ
 accessAnswer geometry device areaSize pageSize writes offset width =
-    firstRefusal (accessRefusals geometry device areaSize pageSize writes offset width)
+    firstRefusal (accessRefusals (isCall geometry device areaSize pageSize) geometry writes offset width)

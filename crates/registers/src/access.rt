@@ -5,11 +5,11 @@ use answers::DONE;
 use answers::INVALID;
 use answers::NO_REGISTER;
 use answers::READ_ONLY;
-use device::Device;
 use geometry::Geometry;
 ghost use mathlib.Core.Path.{_≡_};
+ghost use Rattle.answers.specs.Refusals.{firstRefusal};
 ghost use Rattle.registers.specs.Place.{registers, placeIn, placeOf, isReadOnly, isNothing};
-ghost use Rattle.registers.specs.Access.{accessAnswer};
+ghost use Rattle.registers.specs.Access.{accessRefusals};
 
 // Where the event area begins.
 pub(crate) const AREA_OFFSET: u64 = 0x1000;
@@ -86,18 +86,17 @@ fn is_read_only(place: Place) -> bool
     }
 }
 
+// `called` says that the geometry, the lent lengths and the state are right.
 pub(crate) fn access_refusal(
+    called: bool,
     geometry: Geometry,
-    device: Device,
-    area_size: usize,
-    page_size: usize,
     writes: bool,
     offset: u64,
     width: u32,
 ) -> u8
-    ensures { λ r. ⌜ r ≡ accessAnswer geometry device «area_size» «page_size» writes offset width ⌝ }
+    ensures { λ r. ⌜ r ≡ firstRefusal (accessRefusals called geometry writes offset width) ⌝ }
 {
-    if !device::is_call(geometry, device, area_size, page_size) {
+    if !called {
         return INVALID;
     }
     if width != 4 {

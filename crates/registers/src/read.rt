@@ -77,15 +77,8 @@ pub fn read_rule(
 ) -> Value
     ensures { λ r. ⌜ r ≡ readOf geometry device (now (area .entry)) (now (page .entry)) offset width ⌝ }
 {
-    let refusal = access_refusal(
-        geometry,
-        device,
-        area.len(),
-        page.len(),
-        false,
-        offset,
-        width,
-    );
+    let called = device::is_call(geometry, device, area.len(), page.len());
+    let refusal = access_refusal(called, geometry, false, offset, width);
     if refusal != DONE {
         return Value {
             answer: refusal,

@@ -109,15 +109,8 @@ pub fn write_rule(
 ) -> Outcome
     ensures { λ r. ⌜ (r ≡ writeOf geometry device (now (area .entry)) (length (now (page .entry))) offset width value .outcome) × (now (area .exit) ≡ writeOf geometry device (now (area .entry)) (length (now (page .entry))) offset width value .area) ⌝ }
 {
-    let refusal = access_refusal(
-        geometry,
-        device,
-        area.len(),
-        page.len(),
-        true,
-        offset,
-        width,
-    );
+    let called = device::is_call(geometry, device, area.len(), page.len());
+    let refusal = access_refusal(called, geometry, true, offset, width);
     if refusal != DONE {
         return Outcome {
             answer: refusal,

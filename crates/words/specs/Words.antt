@@ -36,3 +36,7 @@ setU32 bytes at value = overwrite bytes at (u32Bytes value)
 -- Two buffers hold the same `count` bytes from `at` on.
 abbrev pub Agree : List ℕ → List ℕ → ℕ → ℕ → Type 0
 Agree left right at count = (i : ℕ) → at ≤ i → i < at + count → getD left i 0 ≡ getD right i 0
+
+-- Every number is one that a byte can hold.
+abbrev pub IsBytes : List ℕ → Type 0
+IsBytes bytes = (i : ℕ) → getD bytes i 0 < 256

@@ -1,6 +1,7 @@
 // Little-endian words of 16 and 32 bits in a slice of bytes, and bytes copied and zeroed.
 ghost use mathlib.Core.Path.{_≡_};
 ghost use Prim.Native.Nat.{_+_, _≤_, _<_};
+ghost use mathlib.Core.List.{[], _∷_};
 ghost use lib.ListN.{length, replicate};
 ghost use Rattle.words.specs.Words.{u16At, u32At, u16Bytes, u32Bytes, setU16, setU32, overwrite};
 
@@ -77,6 +78,39 @@ pub fn copy(bytes: &mut [u8], at: usize, source: &[u8])
         bytes[at + i] = source[i];
         i += 1;
     }
+}
+
+fn fill_four(stretch: &mut [u8], first: u8, second: u8, third: u8, fourth: u8)
+    requires { ⌜ length (now stretch) ≡ 4 ⌝ }
+    ensures { λ _. ⌜ now (stretch .exit) ≡ first ∷ second ∷ third ∷ fourth ∷ [] ⌝ }
+{
+    stretch[0] = first;
+    stretch[1] = second;
+    stretch[2] = third;
+    stretch[3] = fourth;
+}
+
+// As copy, for a source of eight bytes. All are read before the first is written, so that they move as one word.
+pub fn copy_eight(bytes: &mut [u8], at: usize, source: &[u8])
+    requires { ⌜ (length (now source) ≡ 8) × (at + 8 ≤ length (now bytes)) ⌝ }
+    ensures { λ _. ⌜ now (bytes .exit) ≡ overwrite (now (bytes .entry)) at (now (source .entry)) ⌝ }
+{
+    let first = source[0];
+    let second = source[1];
+    let third = source[2];
+    let fourth = source[3];
+    let fifth = source[4];
+    let sixth = source[5];
+    let seventh = source[6];
+    let eighth = source[7];
+    fill_four(&mut bytes[at..at + 4], first, second, third, fourth);
+    fill_four(
+        &mut bytes[at + 4..at + 4 + 4],
+        fifth,
+        sixth,
+        seventh,
+        eighth,
+    );
 }
 
 pub fn clear(bytes: &mut [u8])

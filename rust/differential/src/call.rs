@@ -5,7 +5,7 @@ use std::fmt;
 use thayarqo_model::access::Value;
 use thayarqo_model::closing::Closed;
 use thayarqo_model::guest::Copied;
-use thayarqo_model::packet::Packet;
+use thayarqo_model::packet::events_of;
 use thayarqo_model::ring_event::{RingNumbers, Taken};
 
 #[derive(Clone, Debug)]
@@ -15,7 +15,7 @@ pub enum Call {
     FreshSettings,
     Read { offset: u64, width: u32 },
     Write { offset: u64, width: u32, value: u32 },
-    PutPacket(Box<Packet>),
+    PutPacket { slot: u32, packet: Vec<u8> },
     Add { slot: u32, entry: Vec<u8> },
     Remove { slot: u32 },
     Step,
@@ -62,7 +62,7 @@ impl Call {
             Call::FreshSettings => "fresh settings",
             Call::Read { .. } => "read",
             Call::Write { .. } => "write",
-            Call::PutPacket(_) => "put packet",
+            Call::PutPacket { .. } => "put packet",
             Call::Add { .. } => "add",
             Call::Remove { .. } => "remove",
             Call::Step => "step",
@@ -92,14 +92,13 @@ impl Answer {
     }
 }
 
-/// A packet by the events that count; everything else in full.
+/// A packet by its length and its events; everything else in full.
 impl fmt::Display for Call {
     fn fmt(&self, to: &mut fmt::Formatter) -> fmt::Result {
         match self {
-            Call::PutPacket(packet) => {
-                let Packet { slot, count, .. } = **packet;
-                write!(to, "PutPacket {{ slot: {slot}, count: {count}, events:")?;
-                for event in packet.events().unwrap_or_default() {
+            Call::PutPacket { slot, packet } => {
+                write!(to, "PutPacket {{ slot: {slot}, length: {}, events:", packet.len())?;
+                for event in events_of(packet) {
                     write!(to, " ({}, {:#x}, {})", event.kind, event.code, event.value)?;
                 }
                 write!(to, " }}")

@@ -4,8 +4,6 @@ use thayarqo_model::closing::Closed;
 use thayarqo_model::device::Device;
 use thayarqo_model::driver::Driver;
 use thayarqo_model::geometry::Geometry;
-use thayarqo_model::packet::Packet;
-use thayarqo_model::records::Event;
 use thayarqo_model::ring_event::{RingNumbers, Taken};
 use thayarqo_model::settings::{Parameter, Settings};
 use thayarqo_sys as sys;
@@ -33,24 +31,12 @@ pub fn device_of(device: sys::Device) -> Device {
     })
 }
 
-fn to_events(events: [Event; 32]) -> [sys::Event; 32] {
-    events.map(|event| convert!(event => sys::Event { kind, code, value }))
-}
-
-fn events_of(events: [sys::Event; 32]) -> [Event; 32] {
-    events.map(|event| convert!(event => Event { kind, code, value }))
-}
-
-pub fn to_packet(packet: &Packet) -> sys::Packet {
-    convert!(packet => sys::Packet { slot, count; events by to_events })
-}
-
 pub fn to_driver(driver: &Driver) -> sys::Driver {
-    convert!(driver => sys::Driver { slot, held, overlong, spoiled, ignoring; events by to_events })
+    convert!(driver => sys::Driver { slot, held, overlong, spoiled, ignoring })
 }
 
 pub fn driver_of(driver: sys::Driver) -> Driver {
-    convert!(driver => Driver { slot, held, overlong, spoiled, ignoring; events by events_of })
+    convert!(driver => Driver { slot, held, overlong, spoiled, ignoring })
 }
 
 fn to_parameter(parameter: Parameter) -> sys::Parameter {

@@ -14,6 +14,7 @@ use thayarqo_model::access::{CONTROL, INTERRUPTS};
 use thayarqo_model::answer::{BAD_INDEX, DONE, INVALID, NOTHING_TO_READ};
 use thayarqo_model::device::NO_SLOT;
 use thayarqo_model::geometry::{Geometry, PAGE};
+use thayarqo_model::packet::PACKET;
 
 /// What the lists of a run came to.
 #[derive(Debug, Default)]
@@ -107,7 +108,7 @@ fn run_device_list(
         let answer = core.call(&mut world, &call);
         delivery.calls += 1;
         check_answer(&call, &answer, geometry)?;
-        logs.note(&call, &answer, &world.driver)?;
+        logs.note(&call, &answer, world.packet.bytes())?;
         if place >= length && answer.number() == NOTHING_TO_READ {
             break;
         }
@@ -121,12 +122,13 @@ fn run_device_list(
     Ok(())
 }
 
-/// A device in any state that the rules allow, off, with pages of any bytes and a fresh driver.
+/// A device in any state that the rules allow, off, with buffers of any bytes and a fresh driver.
 fn switched_off(random: &mut Random, geometry: Geometry) -> World {
     let mut world = World::new(geometry);
     let area = random.bytes(geometry.area_length());
     world.area.load(&area);
     world.page.load(&random.bytes(PAGE));
+    world.packet.load(&random.bytes(PACKET));
     plug_in(random, &mut world, geometry);
     let device = &mut world.device;
     (device.client_rev_written, device.client_rev) = (true, 2);
@@ -169,10 +171,14 @@ fn next(random: &mut Random, world: &World, phase: Phase) -> Call {
 
 /// In such a list no index is impossible, and no state breaks a rule.
 fn check_answer(call: &Call, answer: &Answer, geometry: Geometry) -> Result<(), String> {
-    let wrong_entry = matches!(call, Call::Add { entry, .. } if entry.len() != geometry.entry_size as usize);
+    let wrong_length = match call {
+        Call::Add { entry, .. } => entry.len() != geometry.entry_size as usize,
+        Call::PutPacket { packet, .. } => !packet.len().is_multiple_of(8),
+        _ => false,
+    };
     match answer.number() {
         BAD_INDEX => Err(format!("{call} answers 10")),
-        INVALID if !wrong_entry => Err(format!("{call} answers 1")),
+        INVALID if !wrong_length => Err(format!("{call} answers 1")),
         _ => Ok(()),
     }
 }

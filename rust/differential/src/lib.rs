@@ -95,10 +95,10 @@ fn run_list(random: &mut Random, model: Model, mood: Mood, report: &mut Report) 
     }
 }
 
-/// Pages of zeros or of any bytes, and now and then a device that has been on for long, with its ring empty at some place.
+/// Buffers of zeros or of any bytes, and now and then a device that has been on for long, with its ring empty at some place.
 fn started(random: &mut Random, geometry: Geometry) -> World {
     let mut world = World::new(geometry);
-    for buffer in [&mut world.area, &mut world.page] {
+    for buffer in [&mut world.area, &mut world.page, &mut world.packet] {
         let bytes = match random.once_in(2) {
             true => vec![0; buffer.bytes().len()],
             false => random.bytes(buffer.bytes().len()),

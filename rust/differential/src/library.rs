@@ -2,8 +2,8 @@
 
 use crate::call::{Answer, Call, Core, Told};
 use crate::convert::{
-    closed_of, device_of, driver_of, settings_of, taken_of, to_device, to_driver, to_geometry, to_packet,
-    to_ring_event, to_settings,
+    closed_of, device_of, driver_of, settings_of, taken_of, to_device, to_driver, to_geometry, to_ring_event,
+    to_settings,
 };
 use crate::world::World;
 use thayarqo_model::access::Value;
@@ -42,11 +42,13 @@ impl Core for Library {
     }
 }
 
-fn read(world: &World, offset: u64, width: u32) -> Answer {
+/// The library might write what it is lent to read: it is compared all the same.
+fn read(world: &mut World, offset: u64, width: u32) -> Answer {
+    let mut device = to_device(&world.device);
     let (area, page) = (world.area.bytes(), world.page.bytes());
     let sys::Value { answer, value } = unsafe {
         sys::thayarqo_read(
-            to_device(&world.device),
+            &raw mut device,
             to_geometry(world.geometry),
             area.as_ptr(),
             area.len(),
@@ -56,6 +58,7 @@ fn read(world: &World, offset: u64, width: u32) -> Answer {
             width,
         )
     };
+    world.device = device_of(device);
     Answer::Value(Value { answer, value })
 }
 
@@ -64,7 +67,7 @@ fn change_device(world: &mut World, call: &Call) -> Answer {
     let mut device = to_device(&world.device);
     let answer = match call {
         Call::Write { offset, width, value } => write(world, &mut device, *offset, *width, *value),
-        Call::PutPacket(packet) => put_packet(world, &mut device, to_packet(packet)),
+        Call::PutPacket { slot, packet } => put_packet(world, &mut device, *slot, packet),
         Call::Add { slot, entry } => add(world, &mut device, *slot, entry),
         Call::Remove { slot } => remove(world, &mut device, *slot),
         other => unreachable!("{other} is no call of the device"),
@@ -91,9 +94,10 @@ fn write(world: &mut World, device: &mut sys::Device, offset: u64, width: u32, v
     }
 }
 
-fn put_packet(world: &mut World, device: &mut sys::Device, packet: sys::Packet) -> u8 {
+fn put_packet(world: &mut World, device: &mut sys::Device, slot: u32, packet: &[u8]) -> u8 {
     let geometry = to_geometry(world.geometry);
-    let (area, page) = (world.area.lend(), world.page.bytes());
+    world.input.load(packet);
+    let (area, page, packet) = (world.area.lend(), world.page.bytes(), world.input.bytes());
     unsafe {
         sys::thayarqo_put_packet(
             device,
@@ -102,7 +106,9 @@ fn put_packet(world: &mut World, device: &mut sys::Device, packet: sys::Packet) 
             area.len(),
             page.as_ptr(),
             page.len(),
-            packet,
+            slot,
+            packet.as_ptr().cast(),
+            packet.len(),
         )
     }
 }
@@ -145,8 +151,17 @@ fn remove(world: &mut World, device: &mut sys::Device, slot: u32) -> u8 {
 fn step(world: &mut World) -> Answer {
     let geometry = to_geometry(world.geometry);
     let mut driver = to_driver(&world.driver);
-    let area = world.area.lend();
-    let told = unsafe { sys::thayarqo_step(&mut driver, geometry, area.as_mut_ptr(), area.len()) };
+    let (area, packet) = (world.area.lend(), world.packet.lend());
+    let told = unsafe {
+        sys::thayarqo_step(
+            &mut driver,
+            geometry,
+            area.as_mut_ptr(),
+            area.len(),
+            packet.as_mut_ptr().cast(),
+            packet.len(),
+        )
+    };
     world.driver = driver_of(driver);
     Answer::Told(Told {
         answer: told.answer,

@@ -3,7 +3,7 @@
 use crate::call::{Answer, Call};
 use std::collections::VecDeque;
 use thayarqo_model::answer::{DONE, NOTHING_TO_READ, NO_ROOM};
-use thayarqo_model::driver::Driver;
+use thayarqo_model::packet::events_of;
 use thayarqo_model::records::Event;
 use thayarqo_sys::{TOLD_GAP, TOLD_PACKET};
 
@@ -25,30 +25,31 @@ pub struct Logs {
 }
 
 impl Logs {
-    pub fn note(&mut self, call: &Call, answer: &Answer, driver: &Driver) -> Result<(), String> {
+    /// `held` is the buffer of the driver's packet after the call.
+    pub fn note(&mut self, call: &Call, answer: &Answer, held: &[u8]) -> Result<(), String> {
         match (call, answer) {
-            (Call::PutPacket(packet), Answer::Number(DONE)) => {
+            (Call::PutPacket { slot, packet }, Answer::Number(DONE)) => {
                 if self.refused_for_room {
                     self.waiting.push_back(Entry::Gap);
                 }
                 self.refused_for_room = false;
                 self.waiting.push_back(Entry::Packet {
-                    slot: packet.slot,
-                    events: packet.events().unwrap_or_default().to_vec(),
+                    slot: *slot,
+                    events: events_of(packet),
                 });
                 Ok(())
             }
-            (Call::PutPacket(_), Answer::Number(NO_ROOM)) => {
+            (Call::PutPacket { .. }, Answer::Number(NO_ROOM)) => {
                 self.refused_for_room = true;
                 Ok(())
             }
             (Call::Step, Answer::Told(told)) if told.answer == NOTHING_TO_READ => self.hear_nothing(),
             (Call::Step, Answer::Told(told)) if told.what == TOLD_GAP => self.receive(Entry::Gap),
             (Call::Step, Answer::Told(told)) if told.what == TOLD_PACKET => {
-                let events = driver.events.get(..told.count as usize);
+                let events = held.get(..8 * told.count as usize);
                 self.receive(Entry::Packet {
                     slot: told.slot,
-                    events: events.unwrap_or_default().to_vec(),
+                    events: events_of(events.unwrap_or_default()),
                 })
             }
             _ => Ok(()),

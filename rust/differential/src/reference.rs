@@ -42,7 +42,10 @@ fn device_call(model: Model, world: &mut World, call: &Call) -> Answer {
             return Answer::Value(model.read(device, geometry, area, page, *offset, *width));
         }
         Call::Write { offset, width, value } => model.write(device, geometry, area, page, *offset, *width, *value),
-        Call::PutPacket(packet) => model.put_packet(device, geometry, area, page, packet),
+        Call::PutPacket { slot, packet } => {
+            world.input.load(packet);
+            model.put_packet(device, geometry, area, page, *slot, world.input.bytes())
+        }
         Call::Add { slot, entry } => {
             world.input.load(entry);
             model.add(device, geometry, area, page, *slot, world.input.bytes())
@@ -66,7 +69,10 @@ fn guest_call(model: Model, world: &mut World, call: &Call) -> Answer {
             let (page, out) = (world.page.bytes(), world.out.lend());
             Answer::Number(model.lookup_copy(geometry, page, *slot, out))
         }
-        _ => Answer::Told(numbers(model.step(&mut world.driver, geometry, world.area.lend()))),
+        _ => {
+            let (area, packet) = (world.area.lend(), world.packet.lend());
+            Answer::Told(numbers(model.step(&mut world.driver, geometry, area, packet)))
+        }
     }
 }
 

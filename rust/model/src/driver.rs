@@ -4,10 +4,10 @@ use crate::answer::{BAD_INDEX, DONE, INVALID, MALFORMED, NOTHING_TO_READ};
 use crate::bytes::{put_word, word};
 use crate::device::NO_SLOT;
 use crate::geometry::Geometry;
-use crate::packet::MOST_EVENTS;
+use crate::packet::{MOST_EVENTS, PACKET};
 use crate::records::{
-    Event, ALL_SLOTS, DEV_CONF, DEV_RESET, DEV_SET, EV_DEV, EV_SYN, READ_POINTER, SYN_DROPPED, SYN_REPORT,
-    WRITE_POINTER,
+    Event, ALL_SLOTS, DEV_CONF, DEV_RESET, DEV_SET, EV_DEV, EV_SYN, KNOWN_RECORD, READ_POINTER, SYN_DROPPED,
+    SYN_REPORT, WRITE_POINTER,
 };
 use crate::{Fault, Model};
 
@@ -19,14 +19,13 @@ pub struct Driver {
     pub slot: u32,
     /// How many events have joined the packet that is begun.
     pub held: u32,
-    pub events: [Event; MOST_EVENTS],
     pub overlong: bool,
     pub spoiled: bool,
     /// From SYN_DROPPED to the next SYN_REPORT.
     pub ignoring: bool,
 }
 
-/// What a step tells. A packet's events are the first `count` of the driver's.
+/// What a step tells. A packet's events are the first `count` of the lent buffer.
 #[derive(Clone, Copy, Debug, PartialEq, Eq)]
 pub enum Told {
     Refused(u8),
@@ -45,7 +44,6 @@ impl Driver {
         Driver {
             slot: NO_SLOT,
             held: 0,
-            events: [Event::default(); MOST_EVENTS],
             overlong: false,
             spoiled: false,
             ignoring: false,
@@ -69,16 +67,16 @@ impl Driver {
         self.spoiled = false;
     }
 
-    fn join(&mut self, event: Event) -> Told {
+    /// The event stands behind those that joined before it.
+    fn join(&mut self, event: Event, packet: &mut [u8]) -> Told {
         if self.ignoring {
             return Told::Nothing;
         }
-        match self.events.get_mut(self.held as usize) {
-            Some(place) => {
-                *place = event;
-                self.held += 1;
-            }
-            None => self.overlong = true,
+        if self.held as usize == MOST_EVENTS {
+            self.overlong = true;
+        } else {
+            event.put(packet, self.held as usize * KNOWN_RECORD);
+            self.held += 1;
         }
         Told::Nothing
     }
@@ -135,9 +133,13 @@ impl Driver {
 }
 
 impl Model {
-    /// One record. Refusals in order: 1, 10, 11; a malformed record is consumed and answers 9.
-    pub fn step(self, driver: &mut Driver, geometry: Geometry, area: &mut [u8]) -> Told {
-        if !geometry.is_allowed() || area.len() != geometry.area_length() || !driver.is_sound(geometry) {
+    /// One record; the events of the packet that is begun are kept in a lent buffer. Refusals in order: 1, 10, 11; a malformed
+    /// record is consumed and answers 9.
+    pub fn step(self, driver: &mut Driver, geometry: Geometry, area: &mut [u8], packet: &mut [u8]) -> Told {
+        if !geometry.is_allowed() || area.len() != geometry.area_length() || packet.len() != PACKET {
+            return Told::Refused(INVALID);
+        }
+        if !driver.is_sound(geometry) {
             return Told::Refused(INVALID);
         }
         let (read, write) = (word(area, READ_POINTER), word(area, WRITE_POINTER));
@@ -150,10 +152,10 @@ impl Model {
         }
         let record = Event::read(area, geometry.record_at(read));
         put_word(area, READ_POINTER, (read + 1) % length);
-        self.receive(driver, record, geometry.slots())
+        self.receive(driver, record, geometry.slots(), packet)
     }
 
-    fn receive(self, driver: &mut Driver, record: Event, slots: u32) -> Told {
+    fn receive(self, driver: &mut Driver, record: Event, slots: u32, packet: &mut [u8]) -> Told {
         let all = match self.fault {
             Fault::ResetAllAsMinusOne => u32::MAX,
             _ => ALL_SLOTS,
@@ -165,7 +167,7 @@ impl Model {
             (EV_DEV, DEV_CONF) if record.value < slots => Told::Conf(record.value),
             (EV_DEV, DEV_RESET) => driver.reset(record.value, slots, all),
             (EV_DEV, _) => Told::Refused(MALFORMED),
-            _ => driver.join(record),
+            _ => driver.join(record, packet),
         }
     }
 }
@@ -201,9 +203,10 @@ mod tests {
     /// What a fresh driver tells of each record, and its slot at the end.
     fn told(records: &[Event]) -> (Vec<Told>, u32) {
         let mut driver = Driver::fresh();
+        let mut packet = [0; PACKET];
         let told = records
             .iter()
-            .map(|&record| Model::default().receive(&mut driver, record, SLOTS))
+            .map(|&record| Model::default().receive(&mut driver, record, SLOTS, &mut packet))
             .collect();
         (told, driver.slot)
     }
@@ -255,5 +258,32 @@ mod tests {
         };
         assert_eq!(last(&most), packet);
         assert_eq!(last(&over), BAD);
+    }
+
+    #[test]
+    fn an_event_that_joins_changes_its_own_bytes() {
+        let mut packet = [0xEE; PACKET];
+        let mut driver = Driver {
+            held: 31,
+            ..Driver::fresh()
+        };
+        for record in [MOVE, MOVE, set(4), DROPPED, MOVE, REPORT] {
+            Model::default().receive(&mut driver, record, SLOTS, &mut packet);
+        }
+        assert_eq!(packet[248..], [2, 0, 0, 0, 1, 0, 0, 0]);
+        assert!(packet[..248].iter().all(|&byte| byte == 0xEE));
+    }
+
+    #[test]
+    fn a_buffer_of_another_length_is_refused() {
+        let geometry = Geometry {
+            pages: 1,
+            record_size: 8,
+            entry_size: 256,
+        };
+        for (length, answer) in [(255, INVALID), (256, NOTHING_TO_READ), (264, INVALID), (0, INVALID)] {
+            let told = Model::default().step(&mut Driver::fresh(), geometry, &mut [0; 4096], &mut vec![0; length]);
+            assert_eq!(told, Told::Refused(answer));
+        }
     }
 }

@@ -4,41 +4,32 @@ use crate::answer::{BAD_INDEX, BAD_SLOT, DEVICE_OFF, DONE, INVALID, MALFORMED, N
 use crate::bytes::word;
 use crate::device::Device;
 use crate::geometry::Geometry;
-use crate::records::{put_records, Event, DEV_SET, EV_DEV, EV_SYN, READ_POINTER, SYN_DROPPED, SYN_REPORT};
+use crate::records::{
+    put_records, Event, DEV_SET, EV_DEV, EV_SYN, KNOWN_RECORD, READ_POINTER, SYN_DROPPED, SYN_REPORT,
+};
 use crate::{Fault, Model};
 
 /// The most events of a packet.
 pub const MOST_EVENTS: usize = 32;
 
-/// The first `count` events count.
-#[derive(Clone, Copy, Debug, PartialEq, Eq)]
-pub struct Packet {
-    pub slot: u32,
-    pub count: u32,
-    pub events: [Event; MOST_EVENTS],
+/// Bytes of as many events.
+pub const PACKET: usize = MOST_EVENTS * KNOWN_RECORD;
+
+/// Events one after the other, each as in a record.
+pub fn bytes_of(events: &[Event]) -> Vec<u8> {
+    let mut bytes = vec![0; events.len() * KNOWN_RECORD];
+    for (index, event) in events.iter().enumerate() {
+        event.put(&mut bytes, index * KNOWN_RECORD);
+    }
+    bytes
 }
 
-impl Packet {
-    /// A packet of these events; those after the 32nd have no place.
-    pub fn of(slot: u32, events: &[Event]) -> Packet {
-        let mut packet = Packet {
-            slot,
-            count: events.len() as u32,
-            events: [Event::default(); MOST_EVENTS],
-        };
-        for (place, event) in packet.events.iter_mut().zip(events) {
-            *place = *event;
-        }
-        packet
-    }
-
-    /// The events that count, or none where their number isn't 1 to 32.
-    pub fn events(&self) -> Option<&[Event]> {
-        match self.count as usize {
-            0 => None,
-            count => self.events.get(..count),
-        }
-    }
+/// The events of bytes. What is left behind the last whole event is no event.
+pub fn events_of(bytes: &[u8]) -> Vec<Event> {
+    bytes
+        .chunks_exact(KNOWN_RECORD)
+        .map(|event| Event::read(event, 0))
+        .collect()
 }
 
 /// All records of a packet: what was lost, the slot, the events, the report.
@@ -57,32 +48,34 @@ fn records_of(device: &Device, slot: u32, events: &[Event]) -> Vec<Event> {
 }
 
 impl Model {
-    /// Refusals in order: 1, 5, 6, 9, 8, 10, 7. The last two set the lost mark.
+    /// The packet is a slot's events as bytes. Refusals in order: 1, 5, 6, 9, 8, 10, 7. The last two set the lost mark.
     pub fn put_packet(
         self,
         device: &mut Device,
         geometry: Geometry,
         area: &mut [u8],
         page: &[u8],
-        packet: &Packet,
+        slot: u32,
+        packet: &[u8],
     ) -> u8 {
-        if device.is_invalid(geometry, area, page) {
+        if device.is_invalid(geometry, area, page) || !packet.len().is_multiple_of(KNOWN_RECORD) {
             return INVALID;
         }
         if !device.on {
             return DEVICE_OFF;
         }
-        if !device.has_taken(packet.slot) {
+        if !device.has_taken(slot) {
             return BAD_SLOT;
         }
-        let Some(events) = packet.events() else {
+        let events = events_of(packet);
+        if events.is_empty() || events.len() > MOST_EVENTS {
             return MALFORMED;
-        };
-        let entry = &page[geometry.entry_at(packet.slot)..];
+        }
+        let entry = &page[geometry.entry_at(slot)..];
         if !events.iter().all(|&event| self.is_offered(entry, event)) {
             return NOT_OFFERED;
         }
-        self.put_offered(device, geometry, area, packet.slot, events)
+        self.put_offered(device, geometry, area, slot, &events)
     }
 
     fn put_offered(self, device: &mut Device, geometry: Geometry, area: &mut [u8], slot: u32, events: &[Event]) -> u8 {
@@ -133,12 +126,15 @@ mod tests {
         (device, [0; PAGE], page)
     }
 
+    fn put(device: &mut Device, area: &mut [u8], page: &[u8], packet: &[u8]) -> u8 {
+        Model::default().put_packet(device, GEOMETRY, area, page, 4, packet)
+    }
+
     #[test]
     fn write_index_after_the_packets_of_the_paper() {
         let (mut device, mut area, page) = switched_on();
         let mut put = |events: &[Event]| {
-            let packet = Packet::of(4, events);
-            let answer = Model::default().put_packet(&mut device, GEOMETRY, &mut area, &page, &packet);
+            let answer = put(&mut device, &mut area, &page, &bytes_of(events));
             (answer, device.write_index)
         };
         assert_eq!(put(&[MOVE, MOVE]), (DONE, 6));
@@ -149,18 +145,34 @@ mod tests {
     }
 
     #[test]
+    fn half_an_event_is_refused_before_all_else() {
+        let (mut device, mut area, page) = switched_on();
+        for length in [1, 7, 12, 255, 263] {
+            assert_eq!(put(&mut device, &mut area, &page, &vec![0; length]), INVALID);
+        }
+        device.on = false;
+        assert_eq!(put(&mut device, &mut area, &page, &[0; 12]), INVALID);
+        assert_eq!(put(&mut device, &mut area, &page, &[0; 264]), DEVICE_OFF);
+    }
+
+    #[test]
+    fn events_come_back_from_their_bytes() {
+        let events = [MOVE, Event::new(0x0102, 0x0304, 0x0506_0708)];
+        let bytes = bytes_of(&events);
+        assert_eq!(bytes[8..], [2, 1, 4, 3, 8, 7, 6, 5]);
+        assert_eq!(events_of(&bytes), events);
+    }
+
+    #[test]
     fn at_60_unread_one_event_fits_and_two_do_not() {
         let (mut device, mut area, page) = switched_on();
         (device.write_index, device.current_slot) = (60, 4);
         let mut other = device;
-        let model = Model::default();
-        let one = Packet::of(4, &[MOVE]);
-        let two = Packet::of(4, &[MOVE, MOVE]);
         let refused = area;
-        assert_eq!(model.put_packet(&mut other, GEOMETRY, &mut area, &page, &two), NO_ROOM);
+        assert_eq!(put(&mut other, &mut area, &page, &bytes_of(&[MOVE, MOVE])), NO_ROOM);
         assert_eq!(other, Device { lost: true, ..device });
         assert_eq!(area, refused);
-        assert_eq!(model.put_packet(&mut device, GEOMETRY, &mut area, &page, &one), DONE);
+        assert_eq!(put(&mut device, &mut area, &page, &bytes_of(&[MOVE])), DONE);
     }
 
     #[test]
@@ -168,8 +180,7 @@ mod tests {
         let (mut device, mut area, page) = switched_on();
         device.lost = true;
         device.interrupts = true;
-        let packet = Packet::of(4, &[MOVE]);
-        Model::default().put_packet(&mut device, GEOMETRY, &mut area, &page, &packet);
+        put(&mut device, &mut area, &page, &bytes_of(&[MOVE]));
         let kinds: Vec<_> = (2..7)
             .map(|index| Event::read(&area, GEOMETRY.record_at(index)))
             .collect();

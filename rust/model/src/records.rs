@@ -46,7 +46,7 @@ impl Event {
         Event::new(half_word(bytes, at), half_word(bytes, at + 2), word(bytes, at + 4))
     }
 
-    fn put(self, bytes: &mut [u8], at: usize) {
+    pub(crate) fn put(self, bytes: &mut [u8], at: usize) {
         put_half_word(bytes, at, self.kind);
         put_half_word(bytes, at + 2, self.code);
         put_word(bytes, at + 4, self.value);

@@ -5,7 +5,7 @@ use thayarqo_model::answer::{DONE, NOTHING_TO_READ};
 use thayarqo_model::device::Device;
 use thayarqo_model::driver::{Driver, Told};
 use thayarqo_model::geometry::{Geometry, PAGE};
-use thayarqo_model::packet::Packet;
+use thayarqo_model::packet::{bytes_of, events_of, PACKET};
 use thayarqo_model::records::{Event, EV_ABS, EV_KEY};
 use thayarqo_model::Model;
 
@@ -83,6 +83,7 @@ struct Machine {
     driver: Driver,
     area: [u8; PAGE],
     page: [u8; PAGE],
+    packet: [u8; PACKET],
 }
 
 impl Machine {
@@ -93,6 +94,7 @@ impl Machine {
             driver: Driver::fresh(),
             area: [0; PAGE],
             page: [0; PAGE],
+            packet: [0; PACKET],
         };
         let mut entry = [0; 72];
         entry[40..72].fill(0xFF);
@@ -108,8 +110,8 @@ impl Machine {
     }
 
     fn send(&mut self, slot: u32, events: &[Event]) {
-        let packet = Packet::of(slot, events);
-        let answer = Model::default().put_packet(&mut self.device, GEOMETRY, &mut self.area, &self.page, &packet);
+        let Machine { device, area, page, .. } = self;
+        let answer = Model::default().put_packet(device, GEOMETRY, area, page, slot, &bytes_of(events));
         assert_eq!(answer, DONE);
     }
 
@@ -117,13 +119,15 @@ impl Machine {
     fn hear(&mut self) -> Vec<(Told, Vec<Event>)> {
         let mut heard = Vec::new();
         loop {
-            let told = Model::default().step(&mut self.driver, GEOMETRY, &mut self.area);
+            let told = Model::default().step(&mut self.driver, GEOMETRY, &mut self.area, &mut self.packet);
+            let mut events = events_of(&self.packet);
             match told {
                 Told::Refused(NOTHING_TO_READ) => return heard,
-                Told::Nothing => {}
-                Told::Packet { count, .. } => heard.push((told, self.driver.events[..count as usize].to_vec())),
-                _ => heard.push((told, Vec::new())),
+                Told::Nothing => continue,
+                Told::Packet { count, .. } => events.truncate(count as usize),
+                _ => events.clear(),
             }
+            heard.push((told, events));
         }
     }
 }

@@ -1,11 +1,12 @@
 //! The functions, in the header's order.
-use crate::{Closed, Copied, Device, Driver, Geometry, Packet, RingEvent, RingFound, Settings, Told, Value};
+use crate::{Closed, Copied, Device, Driver, Geometry, RingEvent, RingFound, Settings, Told, Value};
+use core::ffi::c_void;
 
 extern "C" {
     pub fn thayarqo_fresh_device() -> Device;
 
     pub fn thayarqo_read(
-        device: Device,
+        device: *const Device,
         geometry: Geometry,
         area: *const u8,
         area_length: usize,
@@ -34,7 +35,9 @@ extern "C" {
         area_length: usize,
         page: *const u8,
         page_length: usize,
-        packet: Packet,
+        slot: u32,
+        packet: *const c_void,
+        packet_length: usize,
     ) -> u8;
 
     pub fn thayarqo_add(
@@ -61,7 +64,14 @@ extern "C" {
 
     pub fn thayarqo_fresh_driver() -> Driver;
 
-    pub fn thayarqo_step(driver: *mut Driver, geometry: Geometry, area: *mut u8, area_length: usize) -> Told;
+    pub fn thayarqo_step(
+        driver: *mut Driver,
+        geometry: Geometry,
+        area: *mut u8,
+        area_length: usize,
+        packet: *mut c_void,
+        packet_length: usize,
+    ) -> Told;
 
     pub fn thayarqo_copy_out(
         geometry: Geometry,

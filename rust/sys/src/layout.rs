@@ -6,9 +6,8 @@ const _: () = {
     assert!(size_of::<Geometry>() == 12);
     assert!(size_of::<Device>() == 32);
     assert!(size_of::<Event>() == 8);
-    assert!(size_of::<Packet>() == 264);
     assert!(size_of::<Value>() == 8);
-    assert!(size_of::<Driver>() == 268);
+    assert!(size_of::<Driver>() == 12);
     assert!(size_of::<Told>() == 12);
     assert!(size_of::<Copied>() == 8);
     assert!(size_of::<RingEvent>() == 32);

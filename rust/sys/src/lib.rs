@@ -24,6 +24,8 @@ pub const RING_PAGE_LENGTH: usize = 4096;
 pub const RING_EVENT_LENGTH: usize = 40;
 /// The most events that a packet holds.
 pub const PACKET_EVENTS: usize = 32;
+/// Bytes of the buffer for a driver's packet.
+pub const PACKET_LENGTH: usize = 8 * PACKET_EVENTS;
 
 /// The sizes that host and guest agree on.
 #[repr(C)]
@@ -49,22 +51,13 @@ pub struct Device {
     pub taken: u64,
 }
 
-/// The first eight bytes of a record.
+/// The first eight bytes of a record, and of a packet's events each, on a little-endian machine.
 #[repr(C)]
 #[derive(Clone, Copy, Debug, Default, PartialEq, Eq)]
 pub struct Event {
     pub kind: u16,
     pub code: u16,
     pub value: u32,
-}
-
-/// A slot and its first `count` events.
-#[repr(C)]
-#[derive(Clone, Copy, Debug, PartialEq, Eq)]
-pub struct Packet {
-    pub slot: u32,
-    pub count: u32,
-    pub events: [Event; 32],
 }
 
 /// What a read answers.
@@ -75,13 +68,12 @@ pub struct Value {
     pub value: u32,
 }
 
-/// The state of a guest's driver.
+/// The state of a guest's driver. The `held` events of the packet that it collects stand in a buffer of their own.
 #[repr(C)]
 #[derive(Clone, Copy, Debug, PartialEq, Eq)]
 pub struct Driver {
     pub slot: u32,
     pub held: u32,
-    pub events: [Event; 32],
     pub overlong: bool,
     pub spoiled: bool,
     pub ignoring: bool,

@@ -2,14 +2,14 @@
 //! makes these calls sound is that each buffer is a slice and that no two overlap.
 #![allow(unsafe_code)]
 use thayarqo_sys::{
-    self as sys, Closed, Copied, Device, Driver, Geometry, Packet, RingEvent, RingFound, Settings, Told, Value,
+    self as sys, Closed, Copied, Device, Driver, Geometry, RingEvent, RingFound, Settings, Told, Value,
 };
 
 pub fn fresh_device() -> Device {
     unsafe { sys::thayarqo_fresh_device() }
 }
 
-pub fn read(device: Device, geometry: Geometry, area: &[u8], page: &[u8], offset: u64, width: u32) -> Value {
+pub fn read(device: &Device, geometry: Geometry, area: &[u8], page: &[u8], offset: u64, width: u32) -> Value {
     unsafe {
         sys::thayarqo_read(
             device,
@@ -49,7 +49,15 @@ pub fn write(
     }
 }
 
-pub fn put_packet(device: &mut Device, geometry: Geometry, area: &mut [u8], page: &[u8], packet: Packet) -> u8 {
+pub fn put_packet(
+    device: &mut Device,
+    geometry: Geometry,
+    area: &mut [u8],
+    page: &[u8],
+    slot: u32,
+    packet: &[u8],
+) -> u8 {
+    let (from, length) = (packet.as_ptr(), packet.len());
     unsafe {
         sys::thayarqo_put_packet(
             device,
@@ -58,7 +66,9 @@ pub fn put_packet(device: &mut Device, geometry: Geometry, area: &mut [u8], page
             area.len(),
             page.as_ptr(),
             page.len(),
-            packet,
+            slot,
+            from.cast(),
+            length,
         )
     }
 }
@@ -98,8 +108,9 @@ pub fn fresh_driver() -> Driver {
     unsafe { sys::thayarqo_fresh_driver() }
 }
 
-pub fn step(driver: &mut Driver, geometry: Geometry, area: &mut [u8]) -> Told {
-    unsafe { sys::thayarqo_step(driver, geometry, area.as_mut_ptr(), area.len()) }
+pub fn step(driver: &mut Driver, geometry: Geometry, area: &mut [u8], packet: &mut [u8]) -> Told {
+    let (events, length) = (packet.as_mut_ptr(), packet.len());
+    unsafe { sys::thayarqo_step(driver, geometry, area.as_mut_ptr(), area.len(), events.cast(), length) }
 }
 
 pub fn copy_out(geometry: Geometry, area: &mut [u8], limit: u32, out: &mut [u8]) -> Copied {

@@ -33,7 +33,7 @@ impl Device {
     /// Reads a register, or a word of the pages, for the guest. Every width but 4 is refused.
     pub fn read(&self, offset: u64, width: u32) -> Answer<u32> {
         let found = call::read(
-            self.state,
+            &self.state,
             self.geometry.numbers(),
             &self.area,
             &self.page,
@@ -67,7 +67,8 @@ impl Device {
             geometry,
             &mut self.area,
             &self.page,
-            packet.numbers(),
+            packet.source().number(),
+            packet.bytes(&mut [0; sys::PACKET_LENGTH]),
         ))
     }
 

@@ -36,6 +36,8 @@ pub enum Told {
 pub struct Driver {
     geometry: Geometry,
     state: sys::Driver,
+    /// The events of the packet that is being collected, as bytes.
+    packet: [u8; sys::PACKET_LENGTH],
 }
 
 impl Driver {
@@ -44,28 +46,25 @@ impl Driver {
         Driver {
             geometry,
             state: call::fresh_driver(),
+            packet: [0; sys::PACKET_LENGTH],
         }
     }
 
     /// Reads one record and moves READ_PTR past it. [`Refusal::Malformed`] tells of a record, or of a packet, that has no meaning
     /// and is consumed all the same.
     pub fn step(&mut self, area: &mut [u8]) -> Answer<Told> {
-        let told = call::step(&mut self.state, self.geometry.numbers(), area);
+        let told = call::step(&mut self.state, self.geometry.numbers(), area, &mut self.packet);
         Refusal::check(told.answer)?;
         Ok(match told.what {
             sys::TOLD_GAP => Told::Gap,
             sys::TOLD_EMPTY_REPORT => Told::EmptyReport,
-            sys::TOLD_PACKET => Told::Packet(self.packet(told)),
+            sys::TOLD_PACKET => Told::Packet(Packet::of_bytes(told.slot, told.count as usize, &self.packet)),
             sys::TOLD_SET => Told::Set(Source::of_number(told.slot)),
             sys::TOLD_CONF => Told::Conf(told.slot),
             sys::TOLD_RESET => Told::Reset(told.slot),
             sys::TOLD_RESET_ALL => Told::ResetAll,
             _ => Told::Nothing,
         })
-    }
-
-    fn packet(&self, told: sys::Told) -> Packet {
-        Packet::of_numbers(told.slot, &self.state.events[..told.count as usize])
     }
 
     /// Copies the first 8 bytes of the oldest records, at most `limit` and as many as `out` has room for, and moves READ_PTR past

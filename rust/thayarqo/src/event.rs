@@ -4,13 +4,19 @@ use crate::refusal::{Answer, Refusal};
 use std::fmt;
 use thayarqo_sys as sys;
 
+/// Bytes of an event, as they stand in a record.
+pub const EVENT_LENGTH: usize = 8;
+
 /// An event: a type and a code, which [`codes`](crate::codes) names, and a value.
 ///
 /// ```
 /// use thayarqo::codes::REL_X;
 /// use thayarqo::Event;
 ///
-/// assert_eq!(Event::rel(REL_X, -3).to_string(), "REL_X -3");
+/// let moved = Event::rel(REL_X, -3);
+/// assert_eq!(moved.to_string(), "REL_X -3");
+/// assert_eq!(moved.bytes(), [2, 0, 0, 0, 0xFD, 0xFF, 0xFF, 0xFF]);
+/// assert_eq!(Event::of_bytes(moved.bytes()), moved);
 /// ```
 #[derive(Clone, Copy, Debug, Default, PartialEq, Eq, Hash)]
 pub struct Event {
@@ -52,16 +58,16 @@ impl Event {
         self.value as i32
     }
 
-    fn numbers(self) -> sys::Event {
-        sys::Event {
-            kind: self.kind,
-            code: self.code,
-            value: self.value,
-        }
+    /// The bytes as they stand in a record.
+    pub const fn bytes(self) -> [u8; EVENT_LENGTH] {
+        let number = self.kind as u64 | (self.code as u64) << 16 | (self.value as u64) << 32;
+        number.to_le_bytes()
     }
 
-    fn of_numbers(event: &sys::Event) -> Event {
-        Event::of(event.kind, event.code, event.value)
+    /// The event of a record's bytes, such as [`Driver::copy_out`](crate::Driver::copy_out) hands over.
+    pub const fn of_bytes(bytes: [u8; EVENT_LENGTH]) -> Event {
+        let number = u64::from_le_bytes(bytes);
+        Event::of(number as u16, (number >> 16) as u16, (number >> 32) as u32)
     }
 }
 
@@ -95,7 +101,7 @@ impl Source {
         }
     }
 
-    fn number(self) -> u32 {
+    pub(crate) fn number(self) -> u32 {
         match self {
             Source::Slot(slot) => slot,
             Source::None => sys::NO_SLOT,
@@ -140,23 +146,26 @@ impl Packet {
         &self.events[..self.count]
     }
 
-    pub(crate) fn numbers(&self) -> sys::Packet {
-        sys::Packet {
-            slot: self.source.number(),
-            count: self.count as u32,
-            events: self.events.map(Event::numbers),
+    /// Writes the bytes of the events to the begin of a buffer, and hands these back.
+    pub(crate) fn bytes<'a>(&self, buffer: &'a mut [u8; sys::PACKET_LENGTH]) -> &'a [u8] {
+        let (places, _) = buffer.as_chunks_mut();
+        for (place, event) in places.iter_mut().zip(self.events()) {
+            *place = event.bytes();
         }
+        &buffer[..EVENT_LENGTH * self.count]
     }
 
-    pub(crate) fn of_numbers(slot: u32, events: &[sys::Event]) -> Packet {
-        let mut held = [Event::default(); PACKET_EVENTS];
-        for (place, event) in held.iter_mut().zip(events) {
-            *place = Event::of_numbers(event);
+    /// The first `count` events of a buffer, of which there is one at least.
+    pub(crate) fn of_bytes(slot: u32, count: usize, buffer: &[u8; sys::PACKET_LENGTH]) -> Packet {
+        let mut events = [Event::default(); PACKET_EVENTS];
+        let (places, _) = buffer.as_chunks();
+        for (event, bytes) in events.iter_mut().zip(&places[..count]) {
+            *event = Event::of_bytes(*bytes);
         }
         Packet {
             source: Source::of_number(slot),
-            count: events.len(),
-            events: held,
+            count,
+            events,
         }
     }
 }

@@ -51,7 +51,7 @@ mod words;
 pub use device::Device;
 pub use driver::{Driver, Told};
 pub use entry::{Entry, KNOWN_ENTRY_LENGTH, NAME_LENGTH};
-pub use event::{Event, Packet, Source, PACKET_EVENTS};
+pub use event::{Event, Packet, Source, EVENT_LENGTH, PACKET_EVENTS};
 pub use geometry::{Geometry, PAGE_LENGTH};
 pub use refusal::{Answer, Refusal};
 pub use ring::{RingConsumer, RingProducer, RING_PAGE_LENGTH};

@@ -62,4 +62,4 @@ const WRITE_PTR: usize = 4;
 const CLOSED: u32 = u32::MAX;
 
 /// Bytes of a record that the device writes.
-const RECORD_LENGTH: usize = 8;
+const RECORD_LENGTH: usize = crate::event::EVENT_LENGTH;

@@ -1,7 +1,7 @@
 //! A pen and a touch screen, as the device's paper shows them: the records in the ring, and what a driver makes of them.
 use thayarqo::codes::*;
 use thayarqo::register::{CLIENT_REV, CONTROL, CONTROL_ON};
-use thayarqo::{Answer, Device, Driver, Entry, Event, Geometry, Packet, Refusal, Source, Told};
+use thayarqo::{Answer, Device, Driver, Entry, Event, Geometry, Packet, Refusal, Source, Told, PACKET_EVENTS};
 
 fn pen() -> Entry {
     let entry = Entry::new("pen")
@@ -44,13 +44,8 @@ fn running_device() -> Answer<Device> {
 
 /// The records that a copy-out hands over, as text.
 fn records(out: &[u8]) -> Vec<String> {
-    let word = |eight: &[u8], at: usize| u32::from_le_bytes(eight[at..at + 4].try_into().unwrap());
-    let event = |eight: &[u8]| Event {
-        kind: word(eight, 0) as u16,
-        code: (word(eight, 0) >> 16) as u16,
-        value: word(eight, 4),
-    };
-    out.chunks(8).map(|eight| event(eight).to_string()).collect()
+    let (events, _) = out.as_chunks();
+    events.iter().map(|bytes| Event::of_bytes(*bytes).to_string()).collect()
 }
 
 #[test]
@@ -69,24 +64,47 @@ fn the_records_stand_in_order() -> Answer<()> {
     Ok(())
 }
 
+/// What a driver tells until it is refused, and by what.
+fn told_until_refused(driver: &mut Driver, area: &mut [u8]) -> (Vec<Told>, Refusal) {
+    let mut told = Vec::new();
+    loop {
+        match driver.step(area) {
+            Ok(Told::Nothing) => {}
+            Ok(what) => told.push(what),
+            Err(refusal) => return (told, refusal),
+        }
+    }
+}
+
 #[test]
 fn the_driver_tells_what_was_put() -> Answer<()> {
     let mut device = running_device()?;
     let mut driver = Driver::new(device.geometry());
-    let mut told = Vec::new();
-    let end = loop {
-        match driver.step(device.area_mut()) {
-            Ok(Told::Nothing) => {}
-            Ok(what) => told.push(what),
-            Err(refusal) => break refusal,
-        }
-    };
+    let told = told_until_refused(&mut driver, device.area_mut());
     let sent = packets()?;
     let mut expected = vec![Told::ResetAll, Told::Conf(4), Told::Conf(7), Told::Set(Source::Slot(4))];
     expected.extend(sent[..3].iter().copied().map(Told::Packet));
     expected.push(Told::Set(Source::Slot(7)));
     expected.extend(sent[3..].iter().copied().map(Told::Packet));
-    assert_eq!((told, end), (expected, Refusal::NothingToRead));
+    assert_eq!(told, (expected, Refusal::NothingToRead));
     assert_eq!(driver.lookup(device.page(), 7)?, touch_screen());
+    Ok(())
+}
+
+#[test]
+fn a_packet_of_the_most_events_comes_whole() -> Answer<()> {
+    let mut device = running_device()?;
+    let mut driver = Driver::new(device.geometry());
+    told_until_refused(&mut driver, device.area_mut());
+    let events: Vec<Event> = (0..PACKET_EVENTS)
+        .map(|number| Event::abs(ABS_X, number as i32))
+        .collect();
+    let packet = Packet::new(4, &events)?;
+    device.put_packet(&packet)?;
+    let expected = vec![Told::Set(Source::Slot(4)), Told::Packet(packet)];
+    assert_eq!(
+        told_until_refused(&mut driver, device.area_mut()),
+        (expected, Refusal::NothingToRead)
+    );
     Ok(())
 }

@@ -20,6 +20,7 @@ use Rattle.device.proofs.Laws.Call.{call as known}
 use Rattle.registers.specs.declared.Place.{Place}
 use Rattle.registers.specs.declared.Place.the-variants.{Magic, Rev, Control, EventSize, Npages, Acceleration, Isr, ConfSize, ClientRev, ReadPtr, EventArea, EntryPage, Nothing}
 use Rattle.registers.specs.Place.{placeOf}
+use Rattle.device.specs.Call.{isCall}
 use Rattle.registers.specs.Access.{accessRefusals, accessAnswer}
 use Rattle.registers.specs.Read.{readOf}
 use Rattle.registers.specs.SwitchOn.{WriteResult}
@@ -37,7 +38,7 @@ use Rattle.delivery.proofs.Laws.Invariant.{Invariant, Kept, quiet-kept}
 access-not-ten : (geometry : Geometry) (device : Device) (areaSize pageSize : ℕ) (writes : Bool) (offset width : ℕ) → accessAnswer geometry device areaSize pageSize writes offset width ≡ 10 → ⊥
 unfolding accessAnswer
 access-not-ten geometry device areaSize pageSize writes offset width =
-    never 10 (accessRefusals geometry device areaSize pageSize writes offset width)
+    never 10 (accessRefusals (isCall geometry device areaSize pageSize) geometry writes offset width)
     ((λ t e. omega arith), ((λ t e. omega arith), ((λ t e. omega arith), ((λ t e. omega arith), ((λ t e. omega arith), ((λ t e. omega arith), (λ e. omega arith)))))))
 
 -- ---- reads
@@ -56,7 +57,7 @@ module _ (geometry : Geometry) (world : World) {waiting : List Item} (h : Invari
   unfolding call
   read-kept =
       quiet-kept (record { sends-nothing = λ refused number. refl; same-flag = λ refused number. refl; no-step = λ number. refl }) refl refl read-not-ten
-      (record { called = h .called; on = h .on; is-driver = h .is-driver; read-inside = h .read-inside; same-write = h .same-write; ahead = h .ahead })
+      (record { called = h .called; on = h .on; packet-size = h .packet-size; is-driver = h .is-driver; read-inside = h .read-inside; same-write = h .same-write; ahead = h .ahead })
 
 -- ---- writes while on
 
@@ -130,6 +131,7 @@ module _ (geometry : Geometry) (world : World) {waiting : List Item} (h : Invari
       (record {
         called = rw (write-size geometry (world .device) (world .area) (length (world .page)) offset width value) (called-with geometry _ c rules);
         on = stays .on;
+        packet-size = h .packet-size;
         is-driver = h .is-driver;
         read-inside = rw (stays .same-read-pointer) (h .read-inside);
         same-write = same .same-write ∙ h .same-write ∙ sym (same .same-index);

@@ -22,7 +22,7 @@ kept geometry world h (read offset width) ok = read-kept geometry world h offset
 kept geometry world h (write offset width value) ok = write-kept geometry world h offset width value ok
 kept geometry world h (add slot entry) ok = add-kept geometry world h slot entry
 kept geometry world h (remove slot) ok = remove-kept geometry world h slot
-kept geometry world h (packet new) ok = packet-kept geometry world h new ok
+kept geometry world h (packet slot events) ok = packet-kept geometry world h slot events ok
 kept geometry world h step ok = step-kept geometry world h
 
 -- After a list of calls, from a world in which something is still waited for.

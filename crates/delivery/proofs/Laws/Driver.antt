@@ -1,14 +1,18 @@
 -- A record keeps the driver's state valid, and no record is answered with 10.
-use Prim.Native.Nat.{ℕ, _+_, _≤_}
+use Prim.Native.Nat.{ℕ, _+_, _*_, _≤_}
 use mathlib.Core.Path.{_≡_, refl}
 use mathlib.Core.Bool.{Bool, true, false, _||_}
 use native.Mathlib.Omega.{arith}
-use native.Mathlib.Decide.{decLe, ℕ-discrete}
+use native.Mathlib.Decide.{decLe, decLt, ℕ-discrete}
 use lib.Dec.{leb, eqb}
-use borrow.Author.Tests.{le-leb, lt-leb, leb-true, eq-eqb, ne-eqb}
+use lib.ListN.{length}
+use borrow.Author.Tests.{le-leb, lt-leb, le-ltb, lt-ltb, leb-true, eq-eqb, ne-eqb}
+use Rattle.words.proofs.Laws.Overwrite.{overwrite-length}
 use Rattle.geometry.specs.declared.Geometry.{Geometry}
 use Rattle.geometry.proofs.Laws.Allowed.{both}
 use Rattle.records.specs.declared.Event.{Event}
+use Rattle.records.specs.Event.{eventBytes}
+use Rattle.records.proofs.Laws.Event.{event-length}
 use Rattle.records.specs.Codes.{EV-SYN, EV-DEV, SYN-REPORT, SYN-DROPPED, DEV-SET, DEV-CONF, DEV-RESET, noSlot, unknownSlot, allSlots}
 use Rattle.assembly.specs.declared.Driver.{Driver}
 use Rattle.assembly.specs.declared.Told.{Told}
@@ -16,6 +20,8 @@ use Rattle.assembly.specs.declared.Kind.{Kind}
 use Rattle.assembly.specs.declared.Kind.the-variants as kind
 use Rattle.assembly.specs.Kind.{isSlot, devSetKind, devKind, kindOf}
 use Rattle.assembly.specs.Transition.{answerOf, spoiled, moved, joined, reported, ended, withoutSlot, received, receive}
+use Rattle.assembly.specs.Collect.{packetLength, collected, Collector, collect}
+use Rattle.assembly.proofs.Laws.Held.{held-few}
 use Rattle.driver.specs.Step.{isDriver}
 use Rattle.delivery.proofs.Laws.Choice.{either}
 
@@ -43,11 +49,11 @@ module _ (geometry : Geometry) where
           go true e = rw e (parts driver ok .0)
           go false e = rw e (parts driver ok .0)
 
-  joined-keeps : (event : Event) (driver : Driver) → isDriver geometry driver ≡ true → isDriver geometry (joined event driver) ≡ true
+  joined-keeps : (driver : Driver) → isDriver geometry driver ≡ true → isDriver geometry (joined driver) ≡ true
   unfolding joined isDriver isAt
-  joined-keeps event driver ok = go (driver .ignoring) refl (decLe 32 (driver .held))
+  joined-keeps driver ok = go (driver .ignoring) refl (decLe 32 (driver .held))
     where
-      go : (ignoring : Bool) → driver .ignoring ≡ ignoring → Dec (32 ≤ driver .held) → isDriver geometry (joined event driver) ≡ true
+      go : (ignoring : Bool) → driver .ignoring ≡ ignoring → Dec (32 ≤ driver .held) → isDriver geometry (joined driver) ≡ true
       go true e d = rw e ok
       go false e (yes full) = rw (e, le-leb 32 (driver .held) full) ok
       go false e (no free) =
@@ -123,10 +129,20 @@ module _ (geometry : Geometry) where
   kind-keeps kind.DevResetAll event driver at ok = moved-keeps driver noSlot ok at-none
   kind-keeps kind.BadDevSet event driver at ok = moved-keeps driver noSlot ok at-none
   kind-keeps kind.BadDev event driver at ok = ok
-  kind-keeps kind.Other event driver at ok = joined-keeps event driver ok
+  kind-keeps kind.Other event driver at ok = joined-keeps driver ok
 
   pub receive-keeps : (event : Event) (driver : Driver) → isDriver geometry driver ≡ true → isDriver geometry (receive geometry event driver .driver) ≡ true
   receive-keeps event driver ok = kind-keeps (kindOf geometry event) event driver (fits event) ok
+
+  -- the buffer keeps its length
+  pub collect-length : (event : Event) (collector : Collector) → isDriver geometry (collector .driver) ≡ true → length (collector .packet) ≡ packetLength
+      → length (collect geometry event collector .packet) ≡ length (collector .packet)
+  unfolding collected
+  collect-length event collector ok size = elim (decLt (collector .driver .held) (receive geometry event (collector .driver) .driver .held)) [
+    | yes more ↦ rw (lt-ltb _ _ more) (overwrite-length (collector .packet) (collector .driver .held * 8) (eventBytes event)
+        (omega (arith, event-length event, size, more, held-few geometry event (collector .driver) (parts (collector .driver) ok .0))))
+    | no fewer ↦ rw (le-ltb (collector .driver .held) (receive geometry event (collector .driver) .driver .held) (omega (arith, fewer)))
+  ]
 
 -- ---- the number
 

@@ -1,10 +1,9 @@
 -- Records that the device puts fit the widths of a record's fields.
-use Prim.Native.Nat.{ℕ, zero, suc, _^_, _<_}
+use Prim.Native.Nat.{ℕ, _^_, _<_}
 use mathlib.Core.Bool.{Bool, true, false}
 use mathlib.Core.List.{List, [], _∷_, _++_}
 use native.Mathlib.Omega.{arith}
 use native.Mathlib.Decide.{ℕ-discrete}
-use lib.ListN.{take}
 use borrow.Author.Tests.{eq-eqb, ne-eqb}
 use Rattle.records.specs.declared.Event.{Event}
 use Rattle.records.specs.Event.{EventFits, AllFit}
@@ -14,11 +13,6 @@ use Rattle.packets.specs.Packet.{lostRecords, setRecords, recordsFor}
 pub fit-append : (first second : List Event) → AllFit first → AllFit second → AllFit (first ++ second)
 fit-append [] second a b = b
 fit-append (event ∷ rest) second a b = (a .0, fit-append rest second (a .1) b)
-
-pub fit-take : (count : ℕ) (events : List Event) → AllFit events → AllFit (take count events)
-fit-take zero events a = tt
-fit-take (suc count) [] a = tt
-fit-take (suc count) (event ∷ rest) a = (a .0, fit-take count rest (a .1))
 
 fit-syn : (code : ℕ) → code < 2 ^ 16 → EventFits (synRecord code)
 fit-syn code low = record { kind-fits = omega arith; code-fits = low; value-fits = omega arith }

@@ -1,107 +1,130 @@
 -- A driver between reports: what each record makes of it.
-use Prim.Native.Nat.{ℕ, _+_, _<_}
-use mathlib.Core.Path.{_≡_, refl, sym, subst, _∙_}
+use Prim.Native.Nat.{ℕ, _+_, _*_, _≤_, _<_}
+use mathlib.Core.Path.{_≡_, refl, sym, _∙_}
 use mathlib.Core.Bool.{true, false}
 use mathlib.Core.List.{List, [], _∷_, _++_}
 use native.Mathlib.Omega.{arith}
-use native.Mathlib.Numerals.{add-one}
 use native.Mathlib.Decide.{ℕ-discrete}
-use lib.Dec.{eqb, ltb, leb}
-use lib.ListN.{length, take, length-set, length-append}
-use lib.Seq.{take-suc-set}
+use lib.Dec.{eqb, ltb}
+use lib.ListN.{length, length-append}
 use borrow.Author.Tests.{lt-ltb, le-ltb, lt-leb, eq-eqb, ne-eqb}
 use Rattle.geometry.specs.declared.Geometry.{Geometry}
 use Rattle.geometry.specs.Geometry.{allowed, slotCount}
 use Rattle.geometry.proofs.Laws.Allowed.{sizes}
 use Rattle.geometry.proofs.Laws.Slots.{few-slots}
 use Rattle.records.specs.declared.Event.{Event}
+use Rattle.records.specs.Event.{EventFits, eventsFrom}
 use Rattle.records.specs.Codes.{DEV-SET, DEV-CONF, DEV-RESET, SYN-REPORT, SYN-DROPPED, allSlots, noSlot, synRecord, devRecord}
 use Rattle.assembly.specs.declared.Driver.{Driver}
 use Rattle.assembly.specs.declared.Kind.{Kind}
 use Rattle.assembly.specs.declared.Kind.the-variants as kind
 use Rattle.assembly.specs.Kind.{devKind, kindOf}
-use Rattle.assembly.specs.Transition.{spoiled, joined, reported, withoutSlot, ended, moved, received, receive}
-use Rattle.assembly.specs.Run.{driverNext}
+use Rattle.assembly.specs.Transition.{withOneMore, spoiled, joined, reported, withoutSlot, ended, moved, received, receive}
+use Rattle.assembly.specs.Collect.{packetLength, collected, Collector, eventsHeld, collect}
+use Rattle.assembly.proofs.Laws.Held.{moved-held, without-held}
+use Rattle.assembly.proofs.Laws.Collect.{none-joined, joined-length, joined-events}
 use Rattle.hotplug.specs.State.{currentWithout}
-use Rattle.delivery.specs.Log.{Item, gap, whole, heard}
+use Rattle.delivery.specs.Log.{Item, gap, whole, toldBy}
 
 -- These events are held under a slot, and nothing is spoiled, too long or ignored.
-pub record Holding (slot : ℕ) (events : List Event) (driver : Driver) : Type 0 where
-  pub array : length (driver .events) ≡ 32
-  pub at-slot : driver .slot ≡ slot
-  pub count : driver .held ≡ length events
-  pub begun : take (driver .held) (driver .events) ≡ events
-  pub not-overlong : driver .overlong ≡ false
-  pub not-spoiled : driver .spoiled ≡ false
-  pub not-ignoring : driver .ignoring ≡ false
+pub record Holding (slot : ℕ) (events : List Event) (collector : Collector) : Type 0 where
+  pub size : length (collector .packet) ≡ packetLength
+  pub at-slot : collector .driver .slot ≡ slot
+  pub count : collector .driver .held ≡ length events
+  pub begun : eventsHeld collector ≡ events
+  pub not-overlong : collector .driver .overlong ≡ false
+  pub not-spoiled : collector .driver .spoiled ≡ false
+  pub not-ignoring : collector .driver .ignoring ≡ false
 
 -- What the driver gives for a record.
-abbrev pub give : Geometry → Event → Driver → List Item
-give geometry event driver = heard (receive geometry event driver)
+abbrev pub give : Geometry → Event → Collector → List Item
+give geometry event collector = toldBy (receive geometry event (collector .driver) .told) (collect geometry event collector .packet)
 
 -- Over one record the driver gives these items, and goes on holding these events.
-pub record Leads (geometry : Geometry) (event : Event) (driver : Driver) (items : List Item) (slot : ℕ) (events : List Event) : Type 0 where
-  pub gives : give geometry event driver ≡ items
-  pub held : Holding slot events (driverNext geometry event driver)
+pub record Leads (geometry : Geometry) (event : Event) (collector : Collector) (items : List Item) (slot : ℕ) (events : List Event) : Type 0 where
+  pub gives : give geometry event collector ≡ items
+  pub held : Holding slot events (collect geometry event collector)
+
+-- A collector with another driver and the same buffer.
+abbrev with : Driver → Collector → Collector
+with driver collector = record { driver = driver; packet = collector .packet }
+
+-- After SYN_DROPPED.
+abbrev pub dropping : Collector → Collector
+dropping collector = with (ended true (collector .driver)) collector
 
 module _ (geometry : Geometry) where
-  -- the kind of a record decides
-  lead : (event : Event) (driver : Driver) (k : Kind) {items : List Item} {slot : ℕ} {events : List Event} → kindOf geometry event ≡ k
-      → heard (received k event driver) ≡ items → Holding slot events (received k event driver .driver) → Leads geometry event driver items slot events
-  lead event driver k {slot = slot} {events = events} e gives held =
-      record { gives = rw e gives; held = subst (λ (x : Kind). Holding slot events (received x event driver .driver)) (sym e) held }
+  -- the kind of a record decides; this one doesn't join
+  lead : (event : Event) (collector : Collector) (k : Kind) {items : List Item} {slot : ℕ} {events : List Event} → kindOf geometry event ≡ k
+      → received k event (collector .driver) .driver .held ≤ collector .driver .held
+      → toldBy (received k event (collector .driver) .told) (collector .packet) ≡ items → Holding slot events (with (received k event (collector .driver) .driver) collector)
+      → Leads geometry event collector items slot events
+  lead event collector k e fewer gives held =
+      let same = none-joined (collector .driver) (received k event (collector .driver) .driver) event (collector .packet) fewer in
+      record { gives = rw (e, same) gives; held = rw (e, same) held }
 
   -- ---- events and reports
 
-  pub join : (event : Event) {driver : Driver} {slot : ℕ} {events : List Event} → kindOf geometry event ≡ kind.Other → Holding slot events driver → length events < 32
-      → Leads geometry event driver [] slot (events ++ (event ∷ []))
+  -- one more is held
+  grown : {collector : Collector} {slot : ℕ} {events : List Event} → Holding slot events collector → length events < 32 → joined (collector .driver) ≡ withOneMore (collector .driver)
   unfolding joined
-  join event {driver} {slot} {events} e h few =
-      let room : leb 32 (driver .held) ≡ false = lt-leb 32 (driver .held) (omega (arith, h .count)) in
-      lead event driver kind.Other e refl
-      (rw (h .not-ignoring, room) (record {
-        array = length-set (driver .events) (driver .held) event ∙ h .array;
+  grown {collector} h few = rw (h .not-ignoring, lt-leb 32 (collector .driver .held) (omega (arith, h .count)))
+
+  pub join : (event : Event) {collector : Collector} {slot : ℕ} {events : List Event} → kindOf geometry event ≡ kind.Other → EventFits event → Holding slot events collector → length events < 32
+      → Leads geometry event collector [] slot (events ++ (event ∷ []))
+  join event {collector} {slot} {events} e fits h few =
+      let driver : Driver = collector .driver in
+      let space : driver .held * 8 + 8 ≤ length (collector .packet) = omega (arith, h .count, h .size) in
+      let holding : Holding slot (events ++ (event ∷ [])) (record { driver = withOneMore driver; packet = collected driver (withOneMore driver) event (collector .packet) })
+      = record {
+        size = joined-length driver (withOneMore driver) event (collector .packet) refl space ∙ h .size;
         at-slot = h .at-slot;
         count = rw (length-append) (omega (arith, h .count));
-        begun = rw add-one (take-suc-set (driver .events) (driver .held) event (omega (arith, h .array, h .count)) ∙ rw (h .begun));
+        begun = joined-events driver (withOneMore driver) event (collector .packet) refl fits space ∙ rw (h .begun);
         not-overlong = h .not-overlong;
         not-spoiled = h .not-spoiled;
-        not-ignoring = refl;
-      }))
+        not-ignoring = h .not-ignoring;
+      }
+      in
+      record { gives = rw e; held = rw (e, grown h few) holding }
 
   -- nothing is begun after a report
-  settle : (driver : Driver) {slot : ℕ} → length (driver .events) ≡ 32 → driver .slot ≡ slot → Holding slot [] (ended false driver)
-  settle driver a s = record { array = a; at-slot = s; count = refl; begun = refl; not-overlong = refl; not-spoiled = refl; not-ignoring = refl }
+  settle : (collector : Collector) {slot : ℕ} → length (collector .packet) ≡ packetLength → collector .driver .slot ≡ slot → Holding slot [] (with (ended false (collector .driver)) collector)
+  unfolding eventsFrom
+  settle collector a s = record { size = a; at-slot = s; count = refl; begun = refl; not-overlong = refl; not-spoiled = refl; not-ignoring = refl }
 
-  pub report : {driver : Driver} {slot : ℕ} {events : List Event} → Holding slot events driver → 0 < length events
-      → Leads geometry (synRecord SYN-REPORT) driver (whole slot events ∷ []) slot []
+  pub report : {collector : Collector} {slot : ℕ} {events : List Event} → Holding slot events collector → 0 < length events
+      → Leads geometry (synRecord SYN-REPORT) collector (whole slot events ∷ []) slot []
   unfolding kindOf reported
-  report {driver} h some =
-      let begun : eqb (driver .held) 0 ≡ false = ne-eqb (driver .held) 0 (λ z. omega (arith, h .count)) in
-      lead (synRecord SYN-REPORT) driver kind.SynReport refl (rw (h .not-ignoring, h .not-spoiled, h .not-overlong, begun, h .at-slot, h .begun)) (settle driver (h .array) (h .at-slot))
+  report {collector} h some =
+      let begun : eqb (collector .driver .held) 0 ≡ false = ne-eqb (collector .driver .held) 0 (λ z. omega (arith, h .count)) in
+      lead (synRecord SYN-REPORT) collector kind.SynReport refl (omega arith) (rw (h .not-ignoring, h .not-spoiled, h .not-overlong, begun, h .at-slot, h .begun)) (settle collector (h .size) (h .at-slot))
 
   -- dropped records: the next report tells a gap
-  pub drop-gives : (driver : Driver) → give geometry (synRecord SYN-DROPPED) driver ≡ []
-  unfolding kindOf
-  drop-gives driver = refl
+  dropped : (collector : Collector) → collected (collector .driver) (ended true (collector .driver)) (synRecord SYN-DROPPED) (collector .packet) ≡ collector .packet
+  dropped collector = none-joined (collector .driver) (ended true (collector .driver)) (synRecord SYN-DROPPED) (collector .packet) (omega arith)
 
-  pub drop-next : (driver : Driver) → driverNext geometry (synRecord SYN-DROPPED) driver ≡ ended true driver
+  pub drop-gives : (collector : Collector) → give geometry (synRecord SYN-DROPPED) collector ≡ []
   unfolding kindOf
-  drop-next driver = refl
+  drop-gives collector = refl
 
-  pub report-gap : {driver : Driver} {slot : ℕ} → Holding slot [] driver → Leads geometry (synRecord SYN-REPORT) (ended true driver) (gap ∷ []) slot []
+  pub drop-next : (collector : Collector) → collect geometry (synRecord SYN-DROPPED) collector ≡ dropping collector
+  unfolding kindOf
+  drop-next collector = rw (dropped collector)
+
+  pub report-gap : {collector : Collector} {slot : ℕ} → Holding slot [] collector → Leads geometry (synRecord SYN-REPORT) (dropping collector) (gap ∷ []) slot []
   unfolding kindOf reported
-  report-gap {driver} h = lead (synRecord SYN-REPORT) (ended true driver) kind.SynReport refl refl (settle driver (h .array) (h .at-slot))
+  report-gap {collector} h = lead (synRecord SYN-REPORT) (dropping collector) kind.SynReport refl (omega arith) refl (settle (dropping collector) (h .size) (h .at-slot))
 
   -- ---- records of devices
 
   -- another slot, where nothing is begun
-  move : {driver : Driver} {old : ℕ} (new : ℕ) → Holding old [] driver → Holding new [] (moved new driver)
+  move : {collector : Collector} {old : ℕ} (new : ℕ) → Holding old [] collector → Holding new [] (with (moved new (collector .driver)) collector)
   unfolding spoiled
-  move {driver} new h =
-      let none : eqb (driver .held) 0 ≡ true = eq-eqb (driver .held) 0 (h .count) in
+  move {collector} new h =
+      let none : eqb (collector .driver .held) 0 ≡ true = eq-eqb (collector .driver .held) 0 (h .count) in
       rw none (record {
-        array = h .array;
+        size = h .size;
         at-slot = refl;
         count = h .count;
         begun = h .begun;
@@ -110,25 +133,25 @@ module _ (geometry : Geometry) where
         not-ignoring = h .not-ignoring;
       })
 
-  pub set-slot : (new : ℕ) {driver : Driver} {old : ℕ} → new < slotCount geometry → Holding old [] driver → Leads geometry (devRecord DEV-SET new) driver [] new []
+  pub set-slot : (new : ℕ) {collector : Collector} {old : ℕ} → new < slotCount geometry → Holding old [] collector → Leads geometry (devRecord DEV-SET new) collector [] new []
   unfolding kindOf devKind
-  set-slot new {driver} low h = lead (devRecord DEV-SET new) driver kind.DevSet (rw (lt-ltb new (slotCount geometry) low)) refl (move new h)
+  set-slot new {collector} low h = lead (devRecord DEV-SET new) collector kind.DevSet (rw (lt-ltb new (slotCount geometry) low)) (omega (arith, moved-held new (collector .driver))) refl (move new h)
 
-  pub conf : (new : ℕ) {driver : Driver} {slot : ℕ} → new < slotCount geometry → Holding slot [] driver → Leads geometry (devRecord DEV-CONF new) driver [] slot []
+  pub conf : (new : ℕ) {collector : Collector} {slot : ℕ} → new < slotCount geometry → Holding slot [] collector → Leads geometry (devRecord DEV-CONF new) collector [] slot []
   unfolding kindOf devKind
-  conf new {driver} low h = lead (devRecord DEV-CONF new) driver kind.DevConf (rw (lt-ltb new (slotCount geometry) low)) refl h
+  conf new {collector} low h = lead (devRecord DEV-CONF new) collector kind.DevConf (rw (lt-ltb new (slotCount geometry) low)) (omega arith) refl h
 
-  pub reset : (gone : ℕ) {driver : Driver} {slot : ℕ} → gone < slotCount geometry → Holding slot [] driver → Leads geometry (devRecord DEV-RESET gone) driver [] (currentWithout slot gone) []
+  pub reset : (gone : ℕ) {collector : Collector} {slot : ℕ} → gone < slotCount geometry → Holding slot [] collector → Leads geometry (devRecord DEV-RESET gone) collector [] (currentWithout slot gone) []
   unfolding kindOf devKind withoutSlot
-  reset gone {driver} {slot} low h = elim (ℕ-discrete slot gone) [
-    | yes e ↦ lead (devRecord DEV-RESET gone) driver kind.DevReset (rw (lt-ltb gone (slotCount geometry) low)) refl
-        (rw (eq-eqb slot gone e, eq-eqb (driver .slot) gone (h .at-slot ∙ e)) (move noSlot h))
-    | no n ↦ lead (devRecord DEV-RESET gone) driver kind.DevReset (rw (lt-ltb gone (slotCount geometry) low)) refl
-        (rw (ne-eqb slot gone n, ne-eqb (driver .slot) gone (λ e. n (sym (h .at-slot) ∙ e))) h)
+  reset gone {collector} {slot} low h = elim (ℕ-discrete slot gone) [
+    | yes e ↦ lead (devRecord DEV-RESET gone) collector kind.DevReset (rw (lt-ltb gone (slotCount geometry) low)) (omega (arith, without-held gone (collector .driver))) refl
+        (rw (eq-eqb slot gone e, eq-eqb (collector .driver .slot) gone (h .at-slot ∙ e)) (move noSlot h))
+    | no n ↦ lead (devRecord DEV-RESET gone) collector kind.DevReset (rw (lt-ltb gone (slotCount geometry) low)) (omega (arith, without-held gone (collector .driver))) refl
+        (rw (ne-eqb slot gone n, ne-eqb (collector .driver .slot) gone (λ e. n (sym (h .at-slot) ∙ e))) h)
   ]
 
-  pub reset-all : {driver : Driver} {slot : ℕ} → allowed geometry ≡ true → Holding slot [] driver → Leads geometry (devRecord DEV-RESET allSlots) driver [] noSlot []
+  pub reset-all : {collector : Collector} {slot : ℕ} → allowed geometry ≡ true → Holding slot [] collector → Leads geometry (devRecord DEV-RESET allSlots) collector [] noSlot []
   unfolding kindOf devKind
-  reset-all {driver} ok h =
+  reset-all {collector} ok h =
       let high : ltb allSlots (slotCount geometry) ≡ false = le-ltb allSlots (slotCount geometry) (omega (arith, few-slots geometry (sizes geometry ok))) in
-      lead (devRecord DEV-RESET allSlots) driver kind.DevResetAll (rw high) refl (move noSlot h)
+      lead (devRecord DEV-RESET allSlots) collector kind.DevResetAll (rw high) (omega (arith, moved-held noSlot (collector .driver))) refl (move noSlot h)

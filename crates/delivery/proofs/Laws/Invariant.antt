@@ -14,7 +14,7 @@ use Rattle.records.specs.Ring.{readPointer, writePointer, unreadCount, hasRoom}
 use Rattle.records.specs.Put.{putRecords, indexAfter}
 use Rattle.records.specs.Unread.{unread}
 use Rattle.records.proofs.Laws.PutAll.{puts-length, puts-read-pointer, puts-write-pointer, puts-unread}
-use Rattle.assembly.specs.declared.Driver.{Driver}
+use Rattle.assembly.specs.Collect.{packetLength, Collector}
 use Rattle.driver.specs.Step.{isDriver}
 use Rattle.device.specs.declared.Device.{Device}
 use Rattle.device.specs.Call.{isCall}
@@ -29,10 +29,11 @@ use Rattle.delivery.proofs.Laws.Runs.{Runs, then}
 pub record Invariant (geometry : Geometry) (world : World) (waiting : List Item) : Type 0 where
   pub called : isCall geometry (world .device) (length (world .area)) (length (world .page)) ≡ true
   pub on : world .device .on ≡ true
-  pub is-driver : isDriver geometry (world .driver) ≡ true
+  pub packet-size : length (world .collector .packet) ≡ packetLength
+  pub is-driver : isDriver geometry (world .collector .driver) ≡ true
   pub read-inside : readPointer (world .area) < ringLength geometry
   pub same-write : writePointer (world .area) ≡ world .device .«write_index»
-  pub ahead : Runs geometry (world .driver) (unread (ringOf geometry) (world .area) (readPointer (world .area)) (world .device .«write_index»)) waiting (world .device .«current_slot») []
+  pub ahead : Runs geometry (world .collector) (unread (ringOf geometry) (world .area) (readPointer (world .area)) (world .device .«write_index»)) waiting (world .device .«current_slot») []
 
 -- A call keeps it, and its log is right.
 pub record Kept (geometry : Geometry) (before : World) (waiting : List Item) (next : world.Call) (result : Result) : Type 0 where
@@ -66,10 +67,10 @@ module _ (geometry : Geometry) where
   pub appended : {world : World} {waiting : List Item} → Invariant geometry world waiting
       → (records : List Event) (more : List Item) (device : Device) (page : List ℕ) → AllFit records
       → hasRoom (ringOf geometry) (readPointer (world .area)) (world .device .«write_index») (length records) ≡ true
-      → ((driver : Driver) → Holding (world .device .«current_slot») [] driver → Runs geometry driver records more (device .«current_slot») [])
+      → ((collector : Collector) → Holding (world .device .«current_slot») [] collector → Runs geometry collector records more (device .«current_slot») [])
       → device .«write_index» ≡ indexAfter (ringOf geometry) (world .device .«write_index») records
       → device .on ≡ true → isCall geometry device (length (world .area)) (length page) ≡ true
-      → Invariant geometry (record { device = device; area = putRecords (ringOf geometry) (world .device .«write_index») records (world .area); page = page; driver = world .driver }) (waiting ++ more)
+      → Invariant geometry (record { device = device; area = putRecords (ringOf geometry) (world .device .«write_index») records (world .area); page = page; collector = world .collector }) (waiting ++ more)
   appended {world} {waiting} h records more device page fits room runs index on called =
       let c = call geometry (world .device) (length (world .area)) (length (world .page)) (h .called) in
       let inside = c .keeps .write-inside in
@@ -78,6 +79,7 @@ module _ (geometry : Geometry) where
       record {
         called = rw (puts-length (ringOf geometry) (world .device .«write_index») records (world .area) (c .holds) inside) called;
         on = on;
+        packet-size = h .packet-size;
         is-driver = h .is-driver;
         read-inside = rw same-read (h .read-inside);
         same-write = puts-write-pointer (ringOf geometry) (world .device .«write_index») records (world .area) (c .holds) inside (h .same-write) ∙ sym index;

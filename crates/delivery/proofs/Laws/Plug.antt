@@ -1,7 +1,6 @@
 -- An add and a remove keep the invariant.
 use Prim.Native.Nat.{ℕ, _^_, _<_}
 use mathlib.Core.Path.{_≡_, refl, sym, subst, _∙_}
-use mathlib.Core.Logic.{_≢_}
 use mathlib.Core.Bool.{true, false, false≢true}
 use mathlib.Core.List.{List, [], _∷_, append-nil}
 use native.Mathlib.Omega.{arith}
@@ -18,7 +17,7 @@ use Rattle.records.specs.Ring.{readPointer}
 use Rattle.records.specs.Codes.{DEV-CONF, DEV-RESET, devRecord}
 use Rattle.records.specs.Put.{putRecords, indexAfter}
 use Rattle.records.proofs.Laws.PutAll.{after-inside}
-use Rattle.assembly.specs.declared.Driver.{Driver}
+use Rattle.assembly.specs.Collect.{Collector}
 use Rattle.device.specs.declared.Device.{Device}
 use Rattle.device.specs.State.{isDevice}
 use Rattle.device.proofs.Laws.Call.{call as known}
@@ -43,12 +42,12 @@ module _ (geometry : Geometry) (world : World) {waiting : List Item} (h : Invari
   abbrev after : ℕ → Device → List ℕ → List ℕ → Result
   after number device area page = record {
     answer = numbered number;
-    world = record { device = device; area = area; page = page; driver = world .driver };
+    world = record { device = device; area = area; page = page; collector = world .collector };
   }
 
   -- one record was put while on
   told : (code : ℕ) (device : Device) (page : List ℕ) → code < 2 ^ 16 → Accepted geometry (world .device) (world .area) (world .page) slot
-      → ((driver : Driver) → Holding (world .device .«current_slot») [] driver → Leads geometry (devRecord code slot) driver [] (device .«current_slot») [])
+      → ((collector : Collector) → Holding (world .device .«current_slot») [] collector → Leads geometry (devRecord code slot) collector [] (device .«current_slot») [])
       → length page ≡ length (world .page) → isDevice geometry device ≡ true → device .on ≡ true
       → device .«write_index» ≡ indexAfter (ringOf geometry) (world .device .«write_index») (devRecord code slot ∷ [])
       → Invariant geometry (after 0 device (putRecords (ringOf geometry) (world .device .«write_index») (devRecord code slot ∷ []) (world .area)) page .world) waiting
@@ -81,7 +80,7 @@ module _ (geometry : Geometry) (world : World) {waiting : List Item} (h : Invari
 
   -- a refusal changes nothing
   same : Invariant geometry (after 0 (world .device) (world .area) (world .page) .world) waiting
-  same = record { called = h .called; on = h .on; is-driver = h .is-driver; read-inside = h .read-inside; same-write = h .same-write; ahead = h .ahead }
+  same = record { called = h .called; on = h .on; packet-size = h .packet-size; is-driver = h .is-driver; read-inside = h .read-inside; same-write = h .same-write; ahead = h .ahead }
 
   -- ---- the calls
 

@@ -15,6 +15,7 @@ use Rattle.geometry.specs.declared.Geometry.{Geometry}
 use Rattle.geometry.specs.Geometry.{allowed, ringLength, ringOf, slotCount}
 use Rattle.geometry.proofs.Laws.Allowed.{sizes}
 use Rattle.records.specs.declared.Event.{Event}
+use Rattle.records.specs.Event.{eventsFrom}
 use Rattle.records.specs.Codes.{DEV-CONF, noSlot, devRecord}
 use Rattle.records.specs.Ring.{Holds, readPointer, writePointer, withReadPointer}
 use Rattle.records.specs.Put.{putRecords, indexAfter}
@@ -23,7 +24,7 @@ use Rattle.records.proofs.Laws.Index.{unread-self}
 use Rattle.records.proofs.Laws.Place.{pointers-inside}
 use Rattle.records.proofs.Laws.PutAll.{puts-read-pointer, puts-write-pointer, puts-unread}
 use Rattle.records.proofs.Laws.Unread.{none-unread}
-use Rattle.assembly.specs.declared.Driver.{Driver}
+use Rattle.assembly.specs.Collect.{Collector}
 use Rattle.driver.specs.Step.{isDriver}
 use Rattle.device.specs.declared.Device.{Device}
 use Rattle.device.proofs.Laws.Call.{Call}
@@ -47,25 +48,26 @@ use Rattle.delivery.proofs.Laws.Invariant.{Invariant}
 -- ---- the driver's run over the first records
 
 module _ (geometry : Geometry) where
-  conf-runs : (taken slot count : ℕ) → slot + count ≤ slotCount geometry → {driver : Driver} → Holding noSlot [] driver
-      → Runs geometry driver (map (devRecord DEV-CONF) (takenFrom taken slot count)) [] noSlot []
+  conf-runs : (taken slot count : ℕ) → slot + count ≤ slotCount geometry → {collector : Collector} → Holding noSlot [] collector
+      → Runs geometry collector (map (devRecord DEV-CONF) (takenFrom taken slot count)) [] noSlot []
   unfolding takenFrom
   conf-runs taken slot zero low held = none geometry held
-  conf-runs taken slot (suc count) low {driver} held =
-      either (λ (slots : List ℕ). Runs geometry driver (map (devRecord DEV-CONF) slots) [] noSlot []) (bit taken slot)
+  conf-runs taken slot (suc count) low {collector} held =
+      either (λ (slots : List ℕ). Runs geometry collector (map (devRecord DEV-CONF) slots) [] noSlot []) (bit taken slot)
       (λ set. then geometry (one geometry (conf geometry slot (omega arith) held)) (λ middle next. conf-runs taken (suc slot) count (omega arith) next))
       (λ free. conf-runs taken (suc slot) count (omega arith) held)
 
-  start-runs : (device : Device) {driver : Driver} → allowed geometry ≡ true → Holding noSlot [] driver → Runs geometry driver (startRecords geometry device) [] noSlot []
+  start-runs : (device : Device) {collector : Collector} → allowed geometry ≡ true → Holding noSlot [] collector → Runs geometry collector (startRecords geometry device) [] noSlot []
   start-runs device ok held = then geometry (one geometry (reset-all geometry ok held)) (λ middle next. conf-runs (device .taken) 0 (slotCount geometry) (omega arith) next)
 
-  fresh-driver : (driver : Driver) → IsFresh driver → isDriver geometry driver ≡ true
+  fresh-driver : (collector : Collector) → IsFresh collector → isDriver geometry (collector .driver) ≡ true
   unfolding isDriver
-  fresh-driver driver fresh = rw (fresh .none-held, fresh .no-slot)
+  fresh-driver collector fresh = rw (fresh .none-held, fresh .no-slot)
 
-fresh-holding : (driver : Driver) → IsFresh driver → Holding noSlot [] driver
-fresh-holding driver fresh = record {
-  array = fresh .array;
+fresh-holding : (collector : Collector) → IsFresh collector → Holding noSlot [] collector
+unfolding eventsFrom
+fresh-holding collector fresh = record {
+  size = fresh .size;
   at-slot = fresh .no-slot;
   count = fresh .none-held;
   begun = rw (fresh .none-held);
@@ -158,7 +160,7 @@ was-call geometry device area pageSize offset width value off on = go (eqb (acce
 
 -- ---- the invariant
 
-module _ (geometry : Geometry) (world : World) (fresh : IsFresh (world .driver)) (off : world .device .on ≡ false) (offset width value : ℕ) where
+module _ (geometry : Geometry) (world : World) (fresh : IsFresh (world .collector)) (off : world .device .on ≡ false) (offset width value : ℕ) where
   -- the first records stand in the ring, and they alone
   first-unread : Call geometry (world .device) (length (world .area)) (length (world .page))
       → let records = startRecords geometry (world .device) in
@@ -187,10 +189,11 @@ module _ (geometry : Geometry) (world : World) (fresh : IsFresh (world .driver))
       record {
         called = rw (write-size geometry (world .device) (world .area) (length (world .page)) offset width value) (called-with geometry _ c rules);
         on = on;
-        is-driver = fresh-driver geometry (world .driver) fresh;
+        packet-size = fresh .size;
+        is-driver = fresh-driver geometry (world .collector) fresh;
         read-inside = rw (s .area-after, read-zero) low;
         same-write = rw (s .area-after, s .device-after) (puts-write-pointer (ringOf geometry) 0 records cleared holds low (cleared-write (world .area) room));
-        ahead = rw (s .area-after, s .device-after, read-zero, first-unread c) (start-runs geometry (world .device) (c .is-allowed) (fresh-holding (world .driver) fresh));
+        ahead = rw (s .area-after, s .device-after, read-zero, first-unread c) (start-runs geometry (world .device) (c .is-allowed) (fresh-holding (world .collector) fresh));
       }
 
   -- nothing was refused yet

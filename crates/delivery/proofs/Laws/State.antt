@@ -10,14 +10,14 @@ use Rattle.geometry.proofs.Laws.Allowed.{both}
 use Rattle.records.specs.Codes.{noSlot}
 use Rattle.device.specs.declared.Device.{Device}
 use Rattle.device.specs.State.{isTaken, clientRevRule, currentRule, isDevice}
-use Rattle.device.specs.Call.{isCall}
+use Rattle.device.specs.Call.{isSized, isCall}
 use Rattle.device.proofs.Laws.Call.{Call, Rules}
 use Rattle.packets.specs.Rule.{withLost, afterPacket}
 
 module _ (geometry : Geometry) {device : Device} {areaSize pageSize : ℕ} where
   -- another state in the same place
   pub called-with : (after : Device) → Call geometry device areaSize pageSize → isDevice geometry after ≡ true → isCall geometry after areaSize pageSize ≡ true
-  unfolding isCall
+  unfolding isSized isCall
   called-with after c rules = rw (c .is-allowed, eq-eqb areaSize (areaLength geometry) (c .area-size), eq-eqb pageSize 4096 (c .page-size)) rules
 
 -- a state that keeps each rule keeps the rules
@@ -29,9 +29,7 @@ rules-device geometry device keeps =
 pub call-device : (geometry : Geometry) (device : Device) (areaSize pageSize : ℕ) → isCall geometry device areaSize pageSize ≡ true → isDevice geometry device ≡ true
 unfolding isCall
 call-device geometry device areaSize pageSize h =
-    let a = both (allowed geometry) _ h in
-    let b = both (eqb areaSize (areaLength geometry)) _ (a .1) in
-    both (eqb pageSize 4096) (isDevice geometry device) (b .1) .1
+    both (isSized geometry areaSize pageSize) (isDevice geometry device) h .1
 
 pub lost-rules : (geometry : Geometry) (device : Device) → isDevice geometry device ≡ true → isDevice geometry (withLost device) ≡ true
 unfolding isDevice clientRevRule currentRule

@@ -20,7 +20,8 @@ use Rattle.records.proofs.Laws.Unread.{read-drops, none-unread}
 use Rattle.assembly.specs.declared.Stepped.{Stepped}
 use Rattle.assembly.specs.declared.Told.the-variants as told
 use Rattle.assembly.specs.Transition.{answerOf, tells, receive}
-use Rattle.assembly.specs.Run.{givenBy, driverNext}
+use Rattle.assembly.specs.Run.{givenBy}
+use Rattle.assembly.specs.Collect.{collect}
 use Rattle.answers.specs.Refusals.{firstRefusal}
 use Rattle.driver.specs.declared.Oldest.the-variants as oldest
 use Rattle.driver.specs.Reader.{isSized, readingRefusal, oldestOf}
@@ -30,22 +31,22 @@ use Rattle.device.proofs.Laws.Call.{call as known}
 use Rattle.delivery.specs.World.{World, Result, stepped, step, call}
 use Rattle.delivery.specs.Log.{Item}
 use Rattle.delivery.proofs.Laws.Holding.{give}
-use Rattle.delivery.proofs.Laws.Driver.{receive-keeps, receive-number}
+use Rattle.delivery.proofs.Laws.Driver.{receive-keeps, collect-length, receive-number}
 use Rattle.delivery.proofs.Laws.Invariant.{Invariant, Kept}
 
 -- What a step leaves of a world.
-abbrev after : World → Stepped → List ℕ → Result
-after world result area = record {
-  answer = stepped result;
-  world = record { device = world .device; area = area; page = world .page; driver = result .driver };
+abbrev after : World → Stepped → List ℕ → List ℕ → Result
+after world result area packet = record {
+  answer = stepped result packet;
+  world = record { device = world .device; area = area; page = world .page; collector = record { driver = result .driver; packet = packet } };
 }
 
 module _ (geometry : Geometry) (world : World) {waiting : List Item} (h : Invariant geometry world waiting) where
-  pub valid : isValid geometry (world .driver) (length (world .area)) ≡ true
+  pub valid : isValid geometry (world .collector .driver) (length (world .area)) (length (world .collector .packet)) ≡ true
   unfolding isValid isSized
   valid =
       let c = known geometry (world .device) (length (world .area)) (length (world .page)) (h .called) in
-      rw (c .is-allowed, eq-eqb (length (world .area)) _ (c .area-size)) (h .is-driver)
+      rw (c .is-allowed, eq-eqb (length (world .area)) _ (c .area-size), eq-eqb (length (world .collector .packet)) _ (h .packet-size)) (h .is-driver)
 
   write-inside : writePointer (world .area) < ringLength geometry
   write-inside =
@@ -69,12 +70,13 @@ module _ (geometry : Geometry) (world : World) {waiting : List Item} (h : Invari
       sym (rw none at (h .ahead .run .gives))
 
   dry-kept : readPointer (world .area) ≡ writePointer (world .area)
-      → Kept geometry world waiting step (after world (tells (told.Refused 11) (world .driver)) (world .area))
+      → Kept geometry world waiting step (after world (tells (told.Refused 11) (world .collector .driver)) (world .area) (world .collector .packet))
   dry-kept e = record {
     still = waiting;
     invariant = record {
       called = h .called;
       on = h .on;
+      packet-size = h .packet-size;
       is-driver = h .is-driver;
       read-inside = h .read-inside;
       same-write = h .same-write;
@@ -114,31 +116,32 @@ module _ (geometry : Geometry) (world : World) {waiting : List Item} (h : Invari
         (read-drops (ringOf geometry) (world .area) (c .holds) (readPointer (world .area)) (world .device .«write_index») (h .read-inside) (c .keeps .write-inside)
         (λ e. some (e ∙ sym (h .same-write))))
 
-    read-kept : Kept geometry world waiting step (after world (receive geometry event (world .driver)) (withReadPointer (world .area) next))
+    read-kept : Kept geometry world waiting step (after world (receive geometry event (world .collector .driver)) (withReadPointer (world .area) next) (collect geometry event (world .collector) .packet))
     unfolding next rest
     read-kept =
         let c = known geometry (world .device) (length (world .area)) (length (world .page)) (h .called) in
         let low : next < ringLength geometry = next-inside (ringOf geometry) (readPointer (world .area)) (h .read-inside) in
         let there : readPointer (withReadPointer (world .area) next) ≡ next = moved-read-pointer (ringOf geometry) (world .area) (c .holds) next (omega (arith, c .holds .small)) in
         record {
-          still = givenBy (driverNext geometry) (give geometry) (driverNext geometry event (world .driver)) rest;
+          still = givenBy (collect geometry) (give geometry) (collect geometry event (world .collector)) rest;
           invariant = record {
             called = rw (moved-length (ringOf geometry) (world .area) (c .holds) next) (h .called);
             on = h .on;
-            is-driver = receive-keeps geometry event (world .driver) (h .is-driver);
+            packet-size = collect-length geometry event (world .collector) (h .is-driver) (h .packet-size) ∙ h .packet-size;
+            is-driver = receive-keeps geometry event (world .collector .driver) (h .is-driver);
             read-inside = rw there low;
             same-write = moved-write-pointer (ringOf geometry) (world .area) (c .holds) next ∙ h .same-write;
             ahead = rw there (record { end = h .ahead .end; run = record { ends = rw drops at (h .ahead .run .ends); gives = refl }; held = h .ahead .held });
           };
           log = (rw drops at (h .ahead .run .gives)) ∙ sym (append-nil waiting);
           flag = refl;
-          dry = λ z. absurd (omega (arith, receive-number geometry event (world .driver), eqb-true (answerOf (receive geometry event (world .driver) .told)) 11 z));
-          not-ten = λ z. omega (arith, receive-number geometry event (world .driver));
+          dry = λ z. absurd (omega (arith, receive-number geometry event (world .collector .driver), eqb-true (answerOf (receive geometry event (world .collector .driver) .told)) 11 z));
+          not-ten = λ z. omega (arith, receive-number geometry event (world .collector .driver));
         }
 
   pub step-kept : Kept geometry world waiting step (call geometry world step)
   unfolding call event next
   step-kept = elim (ℕ-discrete (readPointer (world .area)) (writePointer (world .area))) [
-    | yes e ↦ let s = step-refused geometry (world .driver) (world .area) valid (dry-refusal e) in rw (← s .0, ← s .1) (dry-kept e)
-    | no n ↦ let s = step-received geometry (world .driver) (world .area) valid (read-record n) refl refl in rw (← s .0, ← s .1) (read-kept n)
+    | yes e ↦ let s = step-refused geometry (world .collector .driver) (world .area) (world .collector .packet) valid (dry-refusal e) in rw (← s .told, ← s .area-left, ← s .packet-left) (dry-kept e)
+    | no n ↦ let s = step-received geometry (world .collector .driver) (world .area) (world .collector .packet) valid (read-record n) refl refl refl in rw (← s .told, ← s .area-left, ← s .packet-left) (read-kept n)
   ]

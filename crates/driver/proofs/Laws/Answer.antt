@@ -20,6 +20,7 @@ use Rattle.assembly.specs.Transition.{answerOf, reported, received}
 use Rattle.driver.specs.Reader.{readingRefusal, oldestOf}
 use Rattle.driver.specs.Step.{isValid, stepOf}
 use Rattle.driver.specs.Answer.{isMalformed, stepAnswer}
+use Rattle.driver.proofs.Laws.Step.{Leaves}
 
 report-answer : (driver : Driver) → answerOf (reported driver) ≡ cond (isMalformed SynReport driver) 9 0
 unfolding reported
@@ -44,15 +45,15 @@ record-answer BadDevSet event driver = refl
 record-answer BadDev event driver = refl
 record-answer Other event driver = refl
 
-module _ (geometry : Geometry) (driver : Driver) (area : List ℕ) where
-  step-answer : answerOf (stepOf geometry driver area .stepped .told) ≡ stepAnswer geometry driver area
+module _ (geometry : Geometry) (driver : Driver) (area packet : List ℕ) where
+  step-answer : answerOf (stepOf geometry driver area packet .stepped .told) ≡ stepAnswer geometry driver area packet
   unfolding stepOf oldestOf readingRefusal firstRefusal
   step-answer =
-      go (isValid geometry driver (length area)) (leb (ringLength geometry) (readPointer area)) (leb (ringLength geometry) (writePointer area))
+      go (isValid geometry driver (length area) (length packet)) (leb (ringLength geometry) (readPointer area)) (leb (ringLength geometry) (writePointer area))
       (eqb (readPointer area) (writePointer area)) refl refl refl refl
     where
-      go : (a b c d : Bool) → isValid geometry driver (length area) ≡ a → leb (ringLength geometry) (readPointer area) ≡ b → leb (ringLength geometry) (writePointer area) ≡ c
-          → eqb (readPointer area) (writePointer area) ≡ d → answerOf (stepOf geometry driver area .stepped .told) ≡ stepAnswer geometry driver area
+      go : (a b c d : Bool) → isValid geometry driver (length area) (length packet) ≡ a → leb (ringLength geometry) (readPointer area) ≡ b → leb (ringLength geometry) (writePointer area) ≡ c
+          → eqb (readPointer area) (writePointer area) ≡ d → answerOf (stepOf geometry driver area packet .stepped .told) ≡ stepAnswer geometry driver area packet
       go false b c d p q r s = rw p
       go true true c d p q r s = rw (p, q)
       go true false true d p q r s = rw (p, q, r)
@@ -60,8 +61,8 @@ module _ (geometry : Geometry) (driver : Driver) (area : List ℕ) where
       go true false false false p q r s =
           rw (p, q, r, s) (record-answer (kindOf geometry (recordAt (ringOf geometry) area (readPointer area))) (recordAt (ringOf geometry) area (readPointer area)) driver)
 
-  -- a step's result and area, with the number that it tells
-  pub answered : {result : Stepped} {after : List ℕ}
-      → (result ≡ stepOf geometry driver area .stepped) × (after ≡ stepOf geometry driver area .area)
-      → (result ≡ stepOf geometry driver area .stepped) × ((after ≡ stepOf geometry driver area .area) × (answerOf (result .told) ≡ stepAnswer geometry driver area))
-  answered e = (e .0, (e .1, ap (λ (s : Stepped). answerOf (s .told)) (e .0) ∙ step-answer))
+  -- what a step leaves, with the number that it tells
+  pub answered : {result : Stepped} {area′ packet′ : List ℕ} → Leaves geometry driver area packet result area′ packet′
+      → (result ≡ stepOf geometry driver area packet .stepped)
+      × ((area′ ≡ stepOf geometry driver area packet .area) × ((packet′ ≡ stepOf geometry driver area packet .packet) × (answerOf (result .told) ≡ stepAnswer geometry driver area packet)))
+  answered e = (e .told, (e .area-left, (e .packet-left, ap (λ (s : Stepped). answerOf (s .told)) (e .told) ∙ step-answer)))

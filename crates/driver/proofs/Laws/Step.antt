@@ -1,9 +1,11 @@
 -- The ways out of a step, each with what is told and what stands in the area.
-use Prim.Native.Nat.{ℕ}
+use Prim.Native.Nat.{ℕ, _≤_}
 use mathlib.Core.Path.{_≡_, _∙_}
 use mathlib.Core.Bool.{true, false}
 use mathlib.Core.List.{List}
+use lib.Dec.{leb, eqb}
 use lib.ListN.{length}
+use borrow.Author.Tests.{leb-true, eqb-true}
 use Rattle.geometry.specs.declared.Geometry.{Geometry}
 use Rattle.geometry.specs.Geometry.{allowed, areaLength, ringOf}
 use Rattle.geometry.proofs.Laws.Allowed.{both}
@@ -15,41 +17,57 @@ use Rattle.assembly.specs.declared.Stepped.{Stepped}
 use Rattle.assembly.specs.declared.Told.the-variants as told
 use Rattle.driver.specs.declared.Oldest.the-variants as oldest
 use Rattle.assembly.specs.Transition.{tells, receive}
+use Rattle.assembly.specs.Collect.{packetLength, collected}
+use Rattle.assembly.proofs.Laws.Held.{held-few}
 use Rattle.driver.specs.Reader.{isSized, oldestOf}
 use Rattle.driver.proofs.Laws.Reader.{sized}
 use Rattle.driver.specs.Step.{isDriver, isValid, stepOf}
 
-pub record Valid (geometry : Geometry) (driver : Driver) (size : ℕ) : Type 0 where
+pub record Valid (geometry : Geometry) (driver : Driver) (areaSize packetSize : ℕ) : Type 0 where
   pub is-allowed : allowed geometry ≡ true
-  pub is-sized : size ≡ areaLength geometry
+  pub is-sized : areaSize ≡ areaLength geometry
+  pub holds-packet : packetSize ≡ packetLength
   pub is-driver : isDriver geometry driver ≡ true
 
-pub valid : (geometry : Geometry) (driver : Driver) (size : ℕ) → isValid geometry driver size ≡ true → Valid geometry driver size
+pub valid : (geometry : Geometry) (driver : Driver) (areaSize packetSize : ℕ) → isValid geometry driver areaSize packetSize ≡ true → Valid geometry driver areaSize packetSize
 unfolding isValid
-valid geometry driver size h =
-    let a = both (isSized geometry size) (isDriver geometry driver) h in
-    let s = sized geometry size (a .0) in
-    record { is-allowed = s .0; is-sized = s .1; is-driver = a .1 }
+valid geometry driver areaSize packetSize h =
+    let a = both (isSized geometry areaSize) _ h in
+    let b = both (eqb packetSize packetLength) (isDriver geometry driver) (a .1) in
+    let s = sized geometry areaSize (a .0) in
+    record { is-allowed = s .0; is-sized = s .1; holds-packet = eqb-true packetSize packetLength (b .0); is-driver = b .1 }
 
--- the area of a valid call holds the ring
-pub valid-holds : (geometry : Geometry) (driver : Driver) (area : List ℕ) → isValid geometry driver (length area) ≡ true → Holds (length area) (ringOf geometry)
-valid-holds geometry driver area h =
-    let v = valid geometry driver (length area) h in
-    rw (v .is-sized) (allowed-holds geometry (v .is-allowed))
+-- at most 32 events are held after a record, too
+pub valid-held : (geometry : Geometry) (driver : Driver) (event : Event) → isDriver geometry driver ≡ true → receive geometry event driver .driver .held ≤ 32
+unfolding isDriver
+valid-held geometry driver event h = held-few geometry event driver (leb-true (driver .held) 32 (both (leb (driver .held) 32) _ h .0))
 
-module _ (geometry : Geometry) (driver : Driver) (area : List ℕ) where
-  pub step-invalid : isValid geometry driver (length area) ≡ false
-      → (tells (told.Refused 1) driver ≡ stepOf geometry driver area .stepped) × (area ≡ stepOf geometry driver area .area)
+-- What a step leaves is what the definition says.
+pub record Leaves (geometry : Geometry) (driver : Driver) (area packet : List ℕ) (result : Stepped) (area′ packet′ : List ℕ) : Type 0 where
+  pub told : result ≡ stepOf geometry driver area packet .stepped
+  pub area-left : area′ ≡ stepOf geometry driver area packet .area
+  pub packet-left : packet′ ≡ stepOf geometry driver area packet .packet
+
+module _ (geometry : Geometry) (driver : Driver) (area packet : List ℕ) where
+  -- the area of a valid call holds the ring
+  pub valid-holds : isValid geometry driver (length area) (length packet) ≡ true → Holds (length area) (ringOf geometry)
+  valid-holds h =
+      let v = valid geometry driver (length area) (length packet) h in
+      rw (v .is-sized) (allowed-holds geometry (v .is-allowed))
+
+  pub step-invalid : isValid geometry driver (length area) (length packet) ≡ false
+      → Leaves geometry driver area packet (tells (told.Refused 1) driver) area packet
   unfolding stepOf
-  step-invalid h = (rw h, rw h)
+  step-invalid h = record { told = rw h; area-left = rw h; packet-left = rw h }
 
-  pub step-refused : {number : ℕ} → isValid geometry driver (length area) ≡ true → oldestOf (ringOf geometry) area ≡ oldest.Refused number
-      → (tells (told.Refused number) driver ≡ stepOf geometry driver area .stepped) × (area ≡ stepOf geometry driver area .area)
+  pub step-refused : {number : ℕ} → isValid geometry driver (length area) (length packet) ≡ true → oldestOf (ringOf geometry) area ≡ oldest.Refused number
+      → Leaves geometry driver area packet (tells (told.Refused number) driver) area packet
   unfolding stepOf
-  step-refused h e = (rw (h, e), rw (h, e))
+  step-refused h e = record { told = rw (h, e); area-left = rw (h, e); packet-left = rw (h, e) }
 
-  pub step-received : {index : ℕ} {event : Event} {after : List ℕ} {result : Stepped} → isValid geometry driver (length area) ≡ true
-      → oldestOf (ringOf geometry) area ≡ oldest.Record index event → result ≡ receive geometry event driver → after ≡ withReadPointer area (nextIndex (ringOf geometry) index)
-      → (result ≡ stepOf geometry driver area .stepped) × (after ≡ stepOf geometry driver area .area)
+  pub step-received : {index : ℕ} {event : Event} {area′ packet′ : List ℕ} {result : Stepped} → isValid geometry driver (length area) (length packet) ≡ true
+      → oldestOf (ringOf geometry) area ≡ oldest.Record index event → result ≡ receive geometry event driver
+      → area′ ≡ withReadPointer area (nextIndex (ringOf geometry) index) → packet′ ≡ collected driver (receive geometry event driver .driver) event packet
+      → Leaves geometry driver area packet result area′ packet′
   unfolding stepOf
-  step-received h e r a = (r ∙ rw (h, e), a ∙ rw (h, e))
+  step-received h e r a p = record { told = r ∙ rw (h, e); area-left = a ∙ rw (h, e); packet-left = p ∙ rw (h, e) }

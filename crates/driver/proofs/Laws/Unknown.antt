@@ -38,25 +38,26 @@ same-copied ring left right holds some same index (suc count) =
 
 -- ---- a step
 
-module _ (geometry : Geometry) (driver : Driver) (left right : List ℕ) (same : SameToDriver (ringOf geometry) left right) where
+module _ (geometry : Geometry) (driver : Driver) (packet left right : List ℕ) (same : SameToDriver (ringOf geometry) left right) where
   Same : StepResult → StepResult → Type 0
-  Same one other = (one .stepped ≡ other .stepped) × SameToDriver (ringOf geometry) (one .area) (other .area)
+  Same one other = (one .stepped ≡ other .stepped) × (one .packet ≡ other .packet) × SameToDriver (ringOf geometry) (one .area) (other .area)
 
-  same-on : (oldest : Oldest) → Holds (length left) (ringOf geometry) → Same (stepOn geometry driver left oldest) (stepOn geometry driver right oldest)
+  same-on : (oldest : Oldest) → Holds (length left) (ringOf geometry) → Same (stepOn geometry driver left packet oldest) (stepOn geometry driver right packet oldest)
   unfolding Same
-  same-on (Record index event) holds = (refl, same-moved (ringOf geometry) left right same holds (nextIndex (ringOf geometry) index))
-  same-on (Refused number) holds = (refl, same)
+  same-on (Record index event) holds = (refl, refl, same-moved (ringOf geometry) left right same holds (nextIndex (ringOf geometry) index))
+  same-on (Refused number) holds = (refl, refl, same)
 
-  pub same-step : (stepOf geometry driver left .stepped ≡ stepOf geometry driver right .stepped)
-      × SameToDriver (ringOf geometry) (stepOf geometry driver left .area) (stepOf geometry driver right .area)
+  pub same-step : (stepOf geometry driver left packet .stepped ≡ stepOf geometry driver right packet .stepped)
+      × (stepOf geometry driver left packet .packet ≡ stepOf geometry driver right packet .packet)
+      × SameToDriver (ringOf geometry) (stepOf geometry driver left packet .area) (stepOf geometry driver right packet .area)
   unfolding stepOf Same
-  same-step = go (isValid geometry driver (length left)) refl
+  same-step = go (isValid geometry driver (length left) (length packet)) refl
     where
-      go : (test : Bool) → isValid geometry driver (length left) ≡ test → Same (stepOf geometry driver left) (stepOf geometry driver right)
-      go false h = rw (← same .same-length, h) (refl, same)
+      go : (test : Bool) → isValid geometry driver (length left) (length packet) ≡ test → Same (stepOf geometry driver left packet) (stepOf geometry driver right packet)
+      go false h = rw (← same .same-length, h) (refl, refl, same)
       go true h =
-          let s = sizes geometry (valid geometry driver (length left) h .is-allowed) in
-          rw (← same .same-length, h, same-oldest (ringOf geometry) left right (omega (arith, s .ring-low)) same) (same-on (oldestOf (ringOf geometry) right) (valid-holds geometry driver left h))
+          let s = sizes geometry (valid geometry driver (length left) (length packet) h .is-allowed) in
+          rw (← same .same-length, h, same-oldest (ringOf geometry) left right (omega (arith, s .ring-low)) same) (same-on (oldestOf (ringOf geometry) right) (valid-holds geometry driver left packet h))
 
 -- ---- a copy-out
 

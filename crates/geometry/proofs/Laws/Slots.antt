@@ -1,14 +1,15 @@
--- Slots of the entry page: how many there are, where their entries lie, and the table that says how many.
-use Prim.Native.Nat.{ℕ, zero, suc, _+_, _-_, _*_, _/_, _≤_, _<_}
+-- Slots of the entry page: how many there are, where their entries lie, and the words that say how many.
+use Prim.Native.Nat.{ℕ, zero, suc, _+_, _-_, _*_, _/_, _%_, _^_, _≤_, _<_}
 use mathlib.Core.Path.{_≡_, refl, _∙_}
 use mathlib.Core.Bool.{Bool, true, _&&_}
-use mathlib.Core.List.{List, [], _∷_}
 use native.Mathlib.Omega.{arith}
-use native.Mathlib.Nat.{le-div-iff-mul-le, div-lt-iff-lt-mul, mul-comm, mul-add, mul-one, zero-add, add-zero, add-suc, suc-add}
-use lib.Dec.{eqb}
-use lib.ListN.{length, getD}
-use borrow.Author.Tests.{eqb-true}
+use native.Mathlib.Nat.{le-div-iff-mul-le, div-lt-iff-lt-mul, mul-comm, mul-add, mul-one}
+use native.Mathlib.Decide.{decLt, ℕ-discrete}
+use lib.Dec.{eqb, leb, ltb}
+use lib.ListN.{getD}
+use borrow.Author.Tests.{eqb-true, lt-ltb, le-ltb, le-leb, lt-leb}
 use Rattle.geometry.specs.Geometry.{slotCount, entryPlace}
+use Rattle.geometry.specs.SlotWords.{slotWords}
 use Rattle.geometry.specs.declared.Geometry.{Geometry}
 use Rattle.geometry.proofs.Laws.Allowed.{Sizes, both}
 
@@ -28,25 +29,47 @@ module _ (geometry : Geometry) (sized : Sizes geometry) where
       let l : slotCount geometry < 61 = div-lt-iff-lt-mul {k = geometry .«entry_size»} (omega arith) .1 k in
       omega arith
 
--- ---- the table of slots
+  slot-past : (slot : ℕ) → slotCount geometry ≤ slot → 4096 < geometry .«entry_size» * (slot + 1)
+  slot-past slot high =
+      let k : 4096 < (slot + 1) * geometry .«entry_size» = div-lt-iff-lt-mul {k = geometry .«entry_size»} (omega arith) .0 (omega arith) in
+      rw mul-comm k
 
--- every value of a table is what a rule gives for its place
-matches : (ℕ → ℕ) → ℕ → List ℕ → Bool
-matches rule place [] = true
-matches rule place (value ∷ rest) = eqb value (rule place) && matches rule (suc place) rest
+  -- a slot is in range if its entry ends within the page
+  pub slot-test : (slot : ℕ) → leb (geometry .«entry_size» * (slot + 1)) 4096 ≡ ltb slot (slotCount geometry)
+  slot-test slot = elim (decLt slot (slotCount geometry)) [
+    | yes low ↦ rw (lt-ltb slot (slotCount geometry) low) (le-leb (geometry .«entry_size» * (slot + 1)) 4096 (slot-inside slot low))
+    | no high ↦ rw (le-ltb slot (slotCount geometry) (omega (arith, high)))
+        (lt-leb (geometry .«entry_size» * (slot + 1)) 4096 (slot-past slot (omega (arith, high))))
+  ]
 
-from-table : (rule : ℕ → ℕ) (place : ℕ) (values : List ℕ) → matches rule place values ≡ true → (k : ℕ) → k < length values → getD values k 0 ≡ rule (place + k)
-unfolding matches
-from-table rule place [] h k low = absurd (omega arith)
-from-table rule place (value ∷ rest) h zero low = rw add-zero (eqb-true value (rule place) (both _ _ h .0))
-from-table rule place (value ∷ rest) h (suc k) low = rw (add-suc, ← suc-add) (from-table rule (suc place) rest (both (eqb value (rule place)) _ h .1) k (omega arith))
+-- ---- the words of slots
 
-unfoldable pub table : List ℕ
-table = 60 ∷ 56 ∷ 53 ∷ 51 ∷ 48 ∷ 46 ∷ 44 ∷ 42 ∷ 40 ∷ 39 ∷ 37 ∷ 36 ∷ 35 ∷ 34 ∷ 33 ∷ 32 ∷ 31 ∷ 30 ∷ 29 ∷ 28 ∷ 27 ∷ 26 ∷ 26 ∷ 25 ∷ 24 ∷ 24 ∷ 23 ∷ 23 ∷ 22 ∷ 22 ∷ 21 ∷ 21 ∷ 20 ∷ 20 ∷ 20 ∷ 19 ∷ 19 ∷ 18 ∷ 18 ∷ 18 ∷ 17 ∷ 17 ∷ 17 ∷ 17 ∷ 16 ∷ 16 ∷ 16 ∷ 16 ∷ []
+-- the count of a size by its number: 68 is the first
+counted : ℕ → ℕ
+counted number = getD slotWords (number / 8) 0 / 2 ^ (number % 8 * 8) % 256
 
-pub table-right : (geometry : Geometry) → Sizes geometry → getD table ((geometry .«entry_size» - 68) / 4) 0 ≡ slotCount geometry
-unfolding table matches
-table-right geometry sized =
+-- a test holds for every number below a bound
+below : (ℕ → Bool) → ℕ → Bool
+below test zero = true
+below test (suc bound) = test bound && below test bound
+
+from-below : (test : ℕ → Bool) (bound : ℕ) → below test bound ≡ true → (number : ℕ) → number < bound → test number ≡ true
+unfolding below
+from-below test zero all number low = absurd (omega arith)
+from-below test (suc bound) all number low =
+    let b = both (test bound) (below test bound) all in
+    elim (ℕ-discrete number bound) [
+      | yes e ↦ rw e (b .0)
+      | no n ↦ from-below test bound (b .1) number (omega (arith, n))
+    ]
+
+isRight : ℕ → Bool
+isRight number = eqb (counted number) (4096 / (68 + 4 * number))
+
+pub words-right : (geometry : Geometry) → Sizes geometry
+    → getD slotWords ((geometry .«entry_size» - 68) / 4 / 8) 0 / 2 ^ ((geometry .«entry_size» - 68) / 4 % 8 * 8) % 256 ≡ slotCount geometry
+unfolding counted below isRight
+words-right geometry sized =
     let k : ℕ = (geometry .«entry_size» - 68) / 4 in
     let size : 68 + 4 * k ≡ geometry .«entry_size» = omega (arith, sized .entry-fours) in
-    from-table (λ place. 4096 / (68 + 4 * place)) 0 table refl k (omega arith) ∙ rw (zero-add, size)
+    eqb-true (counted k) (4096 / (68 + 4 * k)) (from-below isRight 48 refl k (omega arith)) ∙ rw size

@@ -1,12 +1,22 @@
+use native.Mathlib.Omega.{arith}
 use borrow.Author.Needs.{needs}
+use Rattle.geometry.proofs.Laws.Allowed.{sizes}
+use Rattle.geometry.proofs.Laws.Products.{product-fits}
+use Rattle.geometry.proofs.Laws.Slots.{slot-test}
 use Rattle.geometry.proofs.is_slot.Statement.{statement}
 use Rattle.geometry.proofs.is_slot.Tie as tie
 
-slot-count-requires : tie.Need-slot-count-requires
-slot-count-requires c κs = search needs
+cast-result : tie.Need-cast-result
+cast-result c = search needs
+
+add-result : tie.Need-add-result
+add-result c = search needs
+
+mul-result : tie.Need-mul-result
+mul-result c = record { fits = product-fits _ _ (omega arith) (omega arith) }
 
 returns : tie.Need-returns
-returns c = rw (c .slot-count .ensures)
+returns c = slot-test (c .before .args .geometry) (sizes _ (c .before .pre)) (c .before .args .slot)
 
 pub is-slot-spec : {M : Type 1} → statement M
-is-slot-spec = tie.close (tie.spec slot-count-requires returns)
+is-slot-spec = tie.close (tie.spec cast-result add-result mul-result returns)

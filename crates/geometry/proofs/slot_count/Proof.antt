@@ -1,7 +1,6 @@
-use mathlib.Core.Path.{_∙_}
 use native.Mathlib.Omega.{arith}
-use Rattle.geometry.proofs.Laws.Slots.{table, table-right}
 use Rattle.geometry.proofs.Laws.Allowed.{sizes}
+use Rattle.geometry.proofs.Laws.Slots.{words-right}
 use borrow.Author.Needs.{needs}
 use Rattle.geometry.proofs.slot_count.Statement.{statement}
 use Rattle.geometry.proofs.slot_count.Tie as tie
@@ -9,18 +8,32 @@ use Rattle.geometry.proofs.slot_count.Tie as tie
 sub-size : tie.Need-sub-size
 sub-size c = omega (arith, sizes _ (c .before .pre))
 
-cast-widen : tie.Need-cast-widen
-cast-widen c = search needs
+slots-of-eight-requires : tie.Need-slots-of-eight-requires
+slots-of-eight-requires c κs = omega (arith, sizes _ (c .before .pre))
 
-array-read-widen : tie.Need-array-read-widen
-array-read-widen c = omega (arith, sizes _ (c .before .pre))
+mul-result : tie.Need-mul-result
+mul-result c = search needs
 
-widen-requires : tie.Need-widen-requires
-widen-requires c κs = search needs
+cast-result : tie.Need-cast-result
+cast-result c = search needs
+
+shr-result : tie.Need-shr-result
+shr-result c = search needs
+
+cast-result-2 : tie.Need-cast-result-2
+cast-result-2 c = search needs
 
 returns : tie.Need-returns
-unfolding table
-returns c = c .widen .ensures ∙ table-right (c .before .before .args .geometry) (sizes _ (c .before .before .pre))
+returns c = rw (c .slots-of-eight .ensures) (words-right (c .before .before .args .geometry) (sizes _ (c .before .before .pre)))
 
 pub slot-count-spec : {M : Type 1} → statement M
-slot-count-spec = tie.close (tie.spec sub-size cast-widen array-read-widen widen-requires returns)
+slot-count-spec =
+    tie.close
+    (tie.spec
+    sub-size
+    slots-of-eight-requires
+    mul-result
+    cast-result
+    shr-result
+    cast-result-2
+    returns)

@@ -2,11 +2,10 @@
 use Prim.Native.Nat.{ℕ, _+_, _-_, _<_}
 use mathlib.Core.Path.{_≡_, ap, _∙_}
 use mathlib.Core.Bool.{true, not}
-use mathlib.Core.List.{List, _++_, append-nil}
+use mathlib.Core.List.{List, _++_}
 use native.Mathlib.Omega.{arith}
 use lib.Dec.{eqb, ltb}
-use lib.ListN.{length, take, drop, drop-of-length-le}
-use lib.Seq.{take-all}
+use lib.ListN.{length, take, drop}
 use borrow.Author.Tests.{ne-eqb, eqb-true, eqb-false, ltb-false, not-false}
 use Rattle.answers.specs.Answers.{done, invalid, malformed, badIndex, noRoom}
 use Rattle.answers.specs.Refusals.{firstRefusal}
@@ -16,10 +15,6 @@ use Rattle.kbdif_events.specs.Event.{eventLength}
 use Rattle.kbdif_decode.specs.Decode.{decoded}
 use Rattle.kbdif.specs.Page.{pageLength, ringLength, inConsOf, withInProd, nextIndex, distance, eventPlace, isContactLimit}
 use Rattle.kbdif.specs.Put.{mayBePut, putRefusals, putAnswered, putOf}
-
--- a whole place filled
-pub copied : (event place : List ℕ) → length event ≡ eventLength → length place ≡ eventLength → take (length event) event ++ drop (length event) place ≡ event
-copied event place h k = rw (take-all (length event) event (omega arith), drop-of-length-le place {i = length event} (omega arith), append-nil)
 
 module _ (page : List ℕ) (inProd contactLimit : ℕ) (event : List ℕ) where
   -- what is known of a put that isn't refused

@@ -1,7 +1,9 @@
-use Rattle.kbdif_decode.proofs.Laws.Reserved.{ZeroSoFar, none-yet, one-more, one-not, all-passed}
 use borrow.Author.Needs.{needs}
-use lib.ListN.{length}
 use Prim.Native.Nat.{_-_}
+use mathlib.Core.Path.{sym, _∙_}
+use native.Mathlib.Omega.{arith}
+use lib.ListN.{length}
+use Rattle.kbdif_decode.proofs.Laws.Reserved.{ZeroSoFar, none-yet, word-more, word-not}
 use Rattle.kbdif_decode.proofs.is_zero.Statement.{statement}
 use Rattle.kbdif_decode.proofs.is_zero.Tie as tie
 
@@ -14,23 +16,29 @@ abbrev μ-loop : tie.MeasureT-loop
 loop-holds : tie.Need-loop-holds Inv-loop μ-loop
 loop-holds c = none-yet _
 
-shared-slice-read-if1 : tie.Need-shared-slice-read-if1 Inv-loop μ-loop
-shared-slice-read-if1 c = search needs
+sub-loop : tie.Need-sub-loop Inv-loop μ-loop
+sub-loop c = c .loop .inv .inside
+
+read-u32-requires : tie.Need-read-u32-requires Inv-loop μ-loop
+read-u32-requires c κs = omega (arith, c .loop-test .taken, c .before .loop .inv .inside)
 
 returns : tie.Need-returns Inv-loop μ-loop
-returns c = one-not _ _ (c .before .before .before .loop .inv) (c .before .before .loop-test .taken) (c .if1 .taken)
+returns c = word-not _ _ (c .before .before .before .loop .inv) (omega (arith, c .before .before .loop-test .taken, c .before .before .before .loop .inv .inside)) (λ none. c .if1 .taken (c .before .read-u32 .ensures ∙ none))
 
 add-i : tie.Need-add-i Inv-loop μ-loop
-add-i c = search needs
+add-i c = omega (arith, c .before .before .loop-test .taken, c .before .before .before .loop .inv .inside, c .before .before .before .before .before .good)
 
 loop-less : tie.Need-loop-less Inv-loop μ-loop
-loop-less c = search needs
+loop-less c = omega (arith, c .before .before .loop-test .taken, c .before .before .before .loop .inv .inside)
 
 loop-again : tie.Need-loop-again Inv-loop μ-loop
-loop-again c = one-more _ _ (c .before .before .before .loop .inv) (c .before .before .loop-test .taken) (c .if1 .left)
+loop-again c = word-more _ _ (c .before .before .before .loop .inv) (omega (arith, c .before .before .loop-test .taken, c .before .before .before .loop .inv .inside)) (sym (c .before .read-u32 .ensures) ∙ c .if1 .left)
+
+rest-is-zero-requires : tie.Need-rest-is-zero-requires Inv-loop μ-loop
+rest-is-zero-requires c κs = (c .before .loop .inv .inside, c .before .loop .inv .decides)
 
 returns-2 : tie.Need-returns-2 Inv-loop μ-loop
-returns-2 c = all-passed _ _ (c .before .loop .inv) (c .loop-test .left)
+returns-2 c = c .rest-is-zero .ensures
 
 pub is-zero-spec : {M : Type 1} → statement M
 is-zero-spec =
@@ -39,9 +47,11 @@ is-zero-spec =
     Inv-loop
     μ-loop
     loop-holds
-    shared-slice-read-if1
+    sub-loop
+    read-u32-requires
     returns
     add-i
     loop-less
     loop-again
+    rest-is-zero-requires
     returns-2)

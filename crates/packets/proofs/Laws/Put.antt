@@ -5,22 +5,22 @@ use mathlib.Core.List.{List, []}
 use native.Mathlib.Omega.{arith}
 use native.Mathlib.Numerals.{add-one}
 use lib.ListN.{length, getD, drop, length-append, drop-of-length-le}
-use lib.Seq.{drop-cons, length-take-le}
+use lib.Seq.{drop-cons}
 use Rattle.geometry.specs.declared.Ring.{Ring}
 use Rattle.records.specs.declared.Event.{Event}
 use Rattle.records.specs.Ring.{Holds, nextIndex, putRecord}
 use Rattle.records.specs.Put.{putRecords, indexAfter, Put}
 use Rattle.records.proofs.Laws.PutAll.{put-one, put-ready}
 use Rattle.device.specs.declared.Device.{Device}
-use Rattle.packets.specs.declared.Packet.{Packet}
-use Rattle.packets.specs.Packet.{eventsOf, lostRecords, setRecords, packetRecords}
+use Rattle.packets.specs.Packet.{eventCount, lostRecords, setRecords, packetRecords}
+use Rattle.packets.proofs.Laws.Events.{counted}
 
 -- how many records a packet takes
-pub records-count : (device : Device) (packet : Packet) {lost set : ℕ} → length (packet .events) ≡ 32 → packet .count ≤ 32
-    → lost ≡ length (lostRecords (device .lost)) → set ≡ length (setRecords (device .«current_slot») (packet .slot))
-    → lost + set + packet .count + 1 ≡ length (packetRecords device packet)
-records-count device packet size few l s =
-    let n : length (eventsOf packet) ≡ packet .count = length-take-le (packet .count) (packet .events) (omega arith) in
+pub records-count : (device : Device) (slot : ℕ) (packet : List ℕ) {lost set : ℕ}
+    → lost ≡ length (lostRecords (device .lost)) → set ≡ length (setRecords (device .«current_slot») slot)
+    → lost + set + eventCount packet + 1 ≡ length (packetRecords device slot packet)
+records-count device slot packet l s =
+    let n = counted packet in
     rw (l, s) (simp length-append (omega arith))
 
 -- ---- the loop over the events: those from `i` on remain, from index `at` on

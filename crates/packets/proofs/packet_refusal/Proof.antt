@@ -1,54 +1,54 @@
 use Prim.Native.Nat.{_+_, _≤_}
+use mathlib.Core.Path.{sym, _∙_}
 use native.Mathlib.Omega.{arith}
 use lib.ListN.{length}
+use borrow.Author.Tests.{not-true, not-false, le-ltb, lt-ltb}
+use Rattle.answers.specs.Refusals.{firstRefusal}
+use Rattle.geometry.proofs.Laws.Allowed.{both}
 use Rattle.entries.proofs.Laws.Lookup.{known-part, known-inside}
 use Rattle.device.proofs.Laws.Call.{Call, call, taken-slot}
-use Rattle.answers.specs.Refusals.{firstRefusal}
-use borrow.Author.Tests.{not-true, not-false}
 use Rattle.packets.specs.Rule.{packetAnswer}
-use mathlib.Core.Path.{sym, _∙_}
-use borrow.Author.Tests.{le-ltb, lt-ltb}
 use borrow.Author.Needs.{needs}
 use Rattle.packets.proofs.packet_refusal.Statement.{statement}
 use Rattle.packets.proofs.packet_refusal.Tie as tie
 
 -- what a call that goes on is known for
-known : (c : tie.Else1) → Call (c .before .before .before .before .args .geometry) (c .before .before .before .before .args .device) (length (c .before .before .before .before .args .area .now)) (length (c .before .before .before .before .args .page .now))
-known c = call _ _ _ _ (sym (c .before .is-call .ensures) ∙ not-false _ (c .if1 .left))
+known : (c : tie.Else1) → Call (c .before .before .before .before .before .args .geometry) (c .before .before .before .before .before .args .device) (length (c .before .before .before .before .before .args .area .now)) (length (c .before .before .before .before .before .args .page .now))
+known c = call _ _ _ _ (both _ _ (sym (c .before .is-whole-call .ensures) ∙ not-false _ (c .if1 .left)) .0)
 
 -- the entry's known bytes lie in the page
-inside : (c : tie.After-entry-place) → c .entry-place .result + 68 ≤ length (c .before .before .before .before .before .before .before .before .before .before .before .before .before .args .page .now)
+inside : (c : tie.After-entry-place) → c .entry-place .result + 68 ≤ length (c .before .before .before .before .before .before .before .before .before .before .before .before .args .page .now)
 inside c =
-    let s = c .before .before .before .before .before .before .before .before .before .before .before .before .before in
-    let k = known (c .before .before .before .before .before .before .before .before .before) in
-    let low = taken-slot (s .args .geometry) (s .args .device) (s .args .packet .slot) (k .keeps) (sym (c .before .before .before .before .before .before .is-taken .ensures) ∙ not-false _ (c .before .before .before .before .before .if3 .left)) in
-    omega (arith, c .entry-place .ensures, k .page-size, known-inside (s .args .geometry) (s .args .packet .slot) (k .is-allowed) low)
+    let a = c .before .before .before .before .before .before .before .before .before .before .before .before .args in
+    let k = known (c .before .before .before .before .before .before .before) in
+    let low = taken-slot (a .geometry) (a .device) (a .slot) (k .keeps) (sym (c .before .before .before .before .is-taken .ensures) ∙ not-false _ (c .before .before .before .if3 .left)) in
+    omega (arith, c .entry-place .ensures, k .page-size, known-inside (a .geometry) (a .slot) (k .is-allowed) low)
 
-is-call-requires : tie.Need-is-call-requires
-is-call-requires c κs = search needs
+is-whole-call-requires : tie.Need-is-whole-call-requires
+is-whole-call-requires c κs = search needs
 
 returns : tie.Need-returns
 unfolding packetAnswer firstRefusal
-returns c = rw (sym (c .before .is-call .ensures) ∙ not-true _ (c .if1 .taken))
+returns c = rw (sym (c .before .is-whole-call .ensures) ∙ not-true _ (c .if1 .taken))
 
 returns-2 : tie.Need-returns-2
 unfolding packetAnswer firstRefusal
-returns-2 c = rw (sym (c .before .before .before .is-call .ensures) ∙ not-false _ (c .before .before .if1 .left), c .if2 .taken)
+returns-2 c = rw (sym (c .before .before .before .is-whole-call .ensures) ∙ not-false _ (c .before .before .if1 .left), c .if2 .taken)
 
 is-taken-requires : tie.Need-is-taken-requires
 is-taken-requires c κs = search needs
 
 returns-3 : tie.Need-returns-3
 unfolding packetAnswer firstRefusal
-returns-3 c = rw (sym (c .before .before .before .before .before .is-call .ensures) ∙ not-false _ (c .before .before .before .before .if1 .left), c .before .before .if2 .left, sym (c .before .is-taken .ensures) ∙ not-true _ (c .if3 .taken))
+returns-3 c = rw (sym (c .before .before .before .before .before .is-whole-call .ensures) ∙ not-false _ (c .before .before .before .before .if1 .left), c .before .before .if2 .left, sym (c .before .is-taken .ensures) ∙ not-true _ (c .if3 .taken))
 
 returns-4 : tie.Need-returns-4
 unfolding packetAnswer firstRefusal
-returns-4 c = rw (sym (c .before .before .before .before .before .before .before .is-call .ensures) ∙ not-false _ (c .before .before .before .before .before .before .if1 .left), c .before .before .before .before .if2 .left, sym (c .before .before .before .is-taken .ensures) ∙ not-false _ (c .before .before .if3 .left), lt-ltb _ _ (c .if4 .taken))
+returns-4 c = rw (sym (c .before .before .before .before .before .before .is-whole-call .ensures) ∙ not-false _ (c .before .before .before .before .before .if1 .left), c .before .before .before .if2 .left, sym (c .before .before .is-taken .ensures) ∙ not-false _ (c .before .if3 .left), lt-ltb _ _ (c .if4 .taken))
 
 returns-5 : tie.Need-returns-5
 unfolding packetAnswer firstRefusal
-returns-5 c = rw (sym (c .before .before .before .before .before .before .before .before .before .is-call .ensures) ∙ not-false _ (c .before .before .before .before .before .before .before .before .if1 .left), c .before .before .before .before .before .before .if2 .left, sym (c .before .before .before .before .before .is-taken .ensures) ∙ not-false _ (c .before .before .before .before .if3 .left), le-ltb _ _ (c .before .before .if4 .left), lt-ltb _ _ (c .if5 .taken))
+returns-5 c = rw (sym (c .before .before .before .before .before .before .before .is-whole-call .ensures) ∙ not-false _ (c .before .before .before .before .before .before .if1 .left), c .before .before .before .before .if2 .left, sym (c .before .before .before .is-taken .ensures) ∙ not-false _ (c .before .before .if3 .left), le-ltb _ _ (c .before .if4 .left), lt-ltb _ _ (c .if5 .taken))
 
 entry-place-requires : tie.Need-entry-place-requires
 entry-place-requires c κs = search needs
@@ -70,28 +70,30 @@ offers-all-requires c κs = search needs
 
 returns-6 : tie.Need-returns-6
 unfolding packetAnswer firstRefusal
-returns-6 c = rw (sym (c .before .before .before .before .before .before .before .before .before .before .before .before .before .is-call .ensures) ∙ not-false _ (c .before .before .before .before .before .before .before .before .before .before .before .before .if1 .left), c .before .before .before .before .before .before .before .before .before .before .if2 .left, sym (c .before .before .before .before .before .before .before .before .before .is-taken .ensures) ∙ not-false _ (c .before .before .before .before .before .before .before .before .if3 .left), le-ltb _ _ (c .before .before .before .before .before .before .if4 .left), le-ltb _ _ (c .before .before .before .before .if5 .left), ← known-part (c .before .before .before .before .before .before .before .before .before .before .before .before .before .before .before .before .args .geometry) _ _ (c .before .before .before .entry-place .ensures), sym (c .before .offers-all .ensures) ∙ not-true _ (c .if6 .taken))
+returns-6 c = rw (sym (c .before .before .before .before .before .before .before .before .before .before .before .is-whole-call .ensures) ∙ not-false _ (c .before .before .before .before .before .before .before .before .before .before .if1 .left), c .before .before .before .before .before .before .before .before .if2 .left, sym (c .before .before .before .before .before .before .before .is-taken .ensures) ∙ not-false _ (c .before .before .before .before .before .before .if3 .left), le-ltb _ _ (c .before .before .before .before .before .if4 .left), le-ltb _ _ (c .before .before .before .before .if5 .left), ← known-part (c .before .before .before .before .before .before .before .before .before .before .before .before .before .before .before .args .geometry) _ _ (c .before .before .before .entry-place .ensures), sym (c .before .offers-all .ensures) ∙ not-true _ (c .if6 .taken))
 
 record-count-requires : tie.Need-record-count-requires
 record-count-requires c κs = search needs
 
 ring-of-requires : tie.Need-ring-of-requires
-ring-of-requires c κs = known (c .before .before .before .before .before .before .before .before .before .before .before .before .before) .is-allowed
+ring-of-requires c κs = known (c .before .before .before .before .before .before .before .before .before .before .before) .is-allowed
 
 room-refusal-requires : tie.Need-room-refusal-requires
-room-refusal-requires c κs = let k = known (c .before .before .before .before .before .before .before .before .before .before .before .before .before .before) in
+room-refusal-requires c κs =
+    let k = known (c .before .before .before .before .before .before .before .before .before .before .before .before) in
     rw (c .ring-of .ensures) (k .holds, k .keeps .write-inside)
 
 returns-7 : tie.Need-returns-7
 unfolding packetAnswer firstRefusal
-returns-7 c = rw (sym (c .before .before .before .before .before .before .before .before .before .before .before .before .before .before .before .before .is-call .ensures) ∙ not-false _ (c .before .before .before .before .before .before .before .before .before .before .before .before .before .before .before .if1 .left), c .before .before .before .before .before .before .before .before .before .before .before .before .before .if2 .left, sym (c .before .before .before .before .before .before .before .before .before .before .before .before .is-taken .ensures) ∙ not-false _ (c .before .before .before .before .before .before .before .before .before .before .before .if3 .left), le-ltb _ _ (c .before .before .before .before .before .before .before .before .before .if4 .left), le-ltb _ _ (c .before .before .before .before .before .before .before .if5 .left), ← known-part (c .before .before .before .before .before .before .before .before .before .before .before .before .before .before .before .before .before .before .before .args .geometry) _ _ (c .before .before .before .before .before .before .entry-place .ensures), sym (c .before .before .before .before .offers-all .ensures) ∙ not-false _ (c .before .before .before .if6 .left))
+returns-7 c =
+    rw (sym (c .before .before .before .before .before .before .before .before .before .before .before .before .before .before .is-whole-call .ensures) ∙ not-false _ (c .before .before .before .before .before .before .before .before .before .before .before .before .before .if1 .left), c .before .before .before .before .before .before .before .before .before .before .before .if2 .left, sym (c .before .before .before .before .before .before .before .before .before .before .is-taken .ensures) ∙ not-false _ (c .before .before .before .before .before .before .before .before .before .if3 .left), le-ltb _ _ (c .before .before .before .before .before .before .before .before .if4 .left), le-ltb _ _ (c .before .before .before .before .before .before .before .if5 .left), ← known-part (c .before .before .before .before .before .before .before .before .before .before .before .before .before .before .before .before .before .before .args .geometry) _ _ (c .before .before .before .before .before .before .entry-place .ensures), sym (c .before .before .before .before .offers-all .ensures) ∙ not-false _ (c .before .before .before .if6 .left))
     (c .room-refusal .ensures ∙ rw (c .before .before .record-count .ensures, c .before .ring-of .ensures))
 
 pub packet-refusal-spec : {M : Type 1} → statement M
 packet-refusal-spec =
     tie.close
     (tie.spec
-    is-call-requires
+    is-whole-call-requires
     returns
     returns-2
     is-taken-requires

@@ -1,19 +1,29 @@
 -- What is known of an access that is not refused.
 use Prim.Native.Nat.{ℕ, _+_, _-_, _%_, _≤_, _<_}
-use mathlib.Core.Path.{_≡_}
+use mathlib.Core.Path.{_≡_, ap, _∙_}
 use mathlib.Core.Bool.{Bool}
 use native.Mathlib.Omega.{arith}
 use borrow.Author.Tests.{leb-false, eqb-true, not-false}
+use Rattle.answers.specs.Refusals.{firstRefusal}
 use Rattle.answers.proofs.Laws.{none-holds}
 use Rattle.geometry.specs.declared.Geometry.{Geometry}
 use Rattle.geometry.specs.Geometry.{areaLength, barLength, ringOf}
 use Rattle.records.proofs.Laws.Place.{pointers-inside}
 use Rattle.device.specs.declared.Device.{Device}
+use Rattle.device.specs.Call.{isCall}
 use Rattle.device.proofs.Laws.Call.{Call, call}
 use Rattle.registers.specs.declared.Place.the-variants.{EventArea, EntryPage}
 use Rattle.registers.specs.Place.{placeOf}
-use Rattle.registers.specs.Access.{accessAnswer}
+use Rattle.registers.specs.Access.{accessRefusals, accessAnswer}
 use Rattle.registers.proofs.Laws.Place.{area-begins, area-ends, page-begins}
+
+-- what an access is judged by
+pub judged : (geometry : Geometry) (device : Device) (areaSize pageSize : ℕ) (writes : Bool) (offset width : ℕ) {called : Bool} {answer : ℕ}
+    → answer ≡ firstRefusal (accessRefusals called geometry writes offset width) → called ≡ isCall geometry device areaSize pageSize
+    → answer ≡ accessAnswer geometry device areaSize pageSize writes offset width
+unfolding accessAnswer
+judged geometry device areaSize pageSize writes offset width first called =
+    first ∙ ap (λ (test : Bool). firstRefusal (accessRefusals test geometry writes offset width)) called
 
 pub record Granted (geometry : Geometry) (device : Device) (areaSize pageSize offset width : ℕ) : Type 0 where
   pub is-call : Call geometry device areaSize pageSize

@@ -6,8 +6,7 @@ use crate::world::{Change, World};
 use thayarqo_model::device::{Device, NO_SLOT};
 use thayarqo_model::driver::{Driver, UNKNOWN_SLOT};
 use thayarqo_model::geometry::{Geometry, PAGE};
-use thayarqo_model::packet::MOST_EVENTS;
-use thayarqo_model::records::Event;
+use thayarqo_model::packet::{MOST_EVENTS, PACKET};
 
 /// Sooner where something is to be mended, so that there is a life between two damages.
 pub fn is_due(random: &mut Random, world: &World, geometry: Geometry) -> bool {
@@ -28,19 +27,21 @@ fn mended(world: &World, geometry: Geometry) -> Option<Change> {
         Some(Change::AreaLength(geometry.area_length()))
     } else if world.page.bytes().len() != PAGE {
         Some(Change::PageLength(PAGE))
+    } else if world.packet.bytes().len() != PACKET {
+        Some(Change::PacketLength(PACKET))
     } else if !geometry.is_allowed() {
         None
     } else if !world.device.is_sound(geometry) {
         Some(Change::Device(Device::fresh()))
     } else if !world.driver.is_sound(geometry) {
-        Some(Change::Driver(Box::new(Driver::fresh())))
+        Some(Change::Driver(Driver::fresh()))
     } else {
         None
     }
 }
 
 fn damage(random: &mut Random, world: &World, geometry: Geometry) -> Change {
-    match random.below(8) {
+    match random.below(10) {
         0 => Change::Geometry(other_geometry(random, geometry)),
         1 => {
             let length = geometry.area_length() as u32;
@@ -48,8 +49,13 @@ fn damage(random: &mut Random, world: &World, geometry: Geometry) -> Change {
             Change::AreaLength(other as usize)
         }
         2 => Change::PageLength(random.near(&[4096, 4096, 0, 68]) as usize),
-        3..=5 => Change::Device(other_device(random, world.device, geometry)),
-        _ => Change::Driver(Box::new(other_driver(random, world.driver, geometry))),
+        3 => Change::PacketLength(random.near(&[256, 256, 248, 264, 8, 0, u32::MAX]) as usize),
+        4 => Change::Packet {
+            at: random.below(PACKET as u32) as usize,
+            bytes: random.bytes(PACKET),
+        },
+        5..=7 => Change::Device(other_device(random, world.device, geometry)),
+        _ => Change::Driver(other_driver(random, world.driver, geometry)),
     }
 }
 
@@ -86,16 +92,12 @@ fn other_device(random: &mut Random, mut device: Device, geometry: Geometry) -> 
 }
 
 fn other_driver(random: &mut Random, mut driver: Driver, geometry: Geometry) -> Driver {
-    match random.below(6) {
+    match random.below(5) {
         0 => driver.overlong = !driver.overlong,
         1 => driver.spoiled = !driver.spoiled,
         2 => driver.ignoring = !driver.ignoring,
         3 => driver.held = random.near(&[0, MOST_EVENTS as u32, 7, u32::MAX]),
-        4 => driver.slot = random.near(&[slots(geometry), UNKNOWN_SLOT, NO_SLOT, 3]),
-        _ => {
-            let place = random.below(MOST_EVENTS as u32) as usize;
-            driver.events[place] = Event::new(random.word() as u16, 1, random.word());
-        }
+        _ => driver.slot = random.near(&[slots(geometry), UNKNOWN_SLOT, NO_SLOT, 3]),
     }
     driver
 }

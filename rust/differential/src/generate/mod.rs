@@ -18,8 +18,9 @@ use thayarqo_model::geometry::Geometry;
 pub(crate) use accesses::quiet_access;
 pub(crate) use damaged::other_geometry;
 pub(crate) use entries::plug_in;
+pub(crate) use packets::packet;
 pub(crate) use ring::{begin as begin_ring, event_bytes};
-pub(crate) use traffic::{add, packet, remove, Phase};
+pub(crate) use traffic::{add, remove, Phase};
 
 /// The next thing that happens.
 #[derive(Clone, Debug)]

@@ -1,30 +1,37 @@
 //! Packets, mostly of events that the slot offers.
 
 use super::entries::taken_slot;
+use crate::call::Call;
 use crate::random::Random;
-use crate::world::World;
-use thayarqo_model::packet::{Packet, MOST_EVENTS};
+use crate::world::{World, MOST_INPUT};
+use thayarqo_model::packet::bytes_of;
 use thayarqo_model::records::{Event, EV_ABS, EV_KEY, EV_REL, EV_SYN, SYN_MT_REPORT};
 
-pub fn random_packet(random: &mut Random, world: &World) -> Packet {
+/// A put of any number of events, and now and then of bytes that aren't whole events.
+pub fn packet(random: &mut Random, world: &World) -> Call {
     let slot = taken_slot(random, world);
+    let mut packet = bytes_of(&events(random, world, slot));
+    if random.once_in(48) {
+        let length = random.near(&[packet.len() as u32, 12, 256, MOST_INPUT as u32]);
+        packet.resize(MOST_INPUT.min(length as usize), random.word() as u8);
+    }
+    Call::PutPacket { slot, packet }
+}
+
+fn events(random: &mut Random, world: &World, slot: u32) -> Vec<Event> {
     let count = match random.below(16) {
         0..=7 => 1 + random.below(4),
         8..=14 => 1 + random.below(32),
-        _ => random.near(&[0, 32, u32::MAX]),
+        _ => random.pick(&[0, 0, 1, 31, 32, 33, 33, 64]),
     };
     let entry = world.geometry.entry_size as usize * slot.min(64) as usize;
     // One packet in eight may hold an event that isn't offered.
     let careless = random.once_in(8);
-    let mut events = [Event::default(); MOST_EVENTS];
-    for event in events.iter_mut().take(count as usize) {
-        *event = if careless && random.once_in(8) {
-            any_event(random)
-        } else {
-            offered_event(random, world, entry)
-        };
-    }
-    Packet { slot, count, events }
+    let event = |_| match careless && random.once_in(8) {
+        true => any_event(random),
+        false => offered_event(random, world, entry),
+    };
+    (0..count).map(event).collect()
 }
 
 fn any_event(random: &mut Random) -> Event {
@@ -63,4 +70,29 @@ fn bit_set(random: &mut Random, bits: u32, is_set: impl Fn(u32) -> bool) -> Opti
         .chain(0..first)
         .find(|&bit| is_set(bit))
         .map(|bit| bit as u16)
+}
+
+#[cfg(test)]
+mod tests {
+    use super::*;
+    use thayarqo_model::geometry::Geometry;
+
+    #[test]
+    fn lengths_on_both_sides_of_each_edge_come() {
+        let world = World::new(Geometry {
+            pages: 1,
+            record_size: 8,
+            entry_size: 68,
+        });
+        let mut random = Random::new(1);
+        let mut seen = [false; MOST_INPUT + 1];
+        for _ in 0..10_000 {
+            if let Call::PutPacket { packet, .. } = packet(&mut random, &world) {
+                seen[packet.len()] = true;
+            }
+        }
+        for length in [0, 8, 11, 12, 13, 248, 255, 256, 257, 264, 511, 512] {
+            assert!(seen[length], "no packet of {length} bytes");
+        }
+    }
 }

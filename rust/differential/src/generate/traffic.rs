@@ -2,7 +2,7 @@
 
 use super::accesses::{any_access, write};
 use super::entries::{any_slot, random_entry, taken_slot};
-use super::packets::random_packet;
+use super::packets::packet;
 use super::ring_length;
 use crate::call::Call;
 use crate::random::Random;
@@ -84,10 +84,6 @@ fn next_pointer(random: &mut Random, world: &World) -> u32 {
     );
     let unread = (write + length - read) % length;
     (read + random.below(unread + 1)) % length
-}
-
-pub fn packet(random: &mut Random, world: &World) -> Call {
-    Call::PutPacket(Box::new(random_packet(random, world)))
 }
 
 pub fn add(random: &mut Random, world: &World) -> Call {

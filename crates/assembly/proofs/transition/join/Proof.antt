@@ -12,15 +12,6 @@ returns-2 : tie.Need-returns-2
 unfolding joined
 returns-2 c = rw (c .before .if1 .left, le-leb _ _ (c .if2 .taken))
 
-cast-place : tie.Need-cast-place
-cast-place c = search needs
-
-mul-event : tie.Need-mul-event
-mul-event c = search needs
-
-element-set-from-event : tie.Need-element-set-from-event
-element-set-from-event c = search needs
-
 add-after : tie.Need-add-after
 add-after c = search needs
 
@@ -29,6 +20,4 @@ unfolding joined
 returns-3 c = rw (c .before .if1 .left, lt-leb _ _ (c .if2 .left))
 
 pub join-spec : {M : Type 1} → statement M
-join-spec =
-    tie.close
-    (tie.spec returns returns-2 cast-place mul-event element-set-from-event add-after returns-3)
+join-spec = tie.close (tie.spec returns returns-2 add-after returns-3)

@@ -1,6 +1,8 @@
+use Prim.Native.Nat.{_<_}
 use mathlib.Core.Path.{_≡_, sym, _∙_}
 use mathlib.Core.Bool.{true}
 use native.Mathlib.Omega.{arith}
+use native.Mathlib.Nat.{mod-lt}
 use lib.ListN.{length}
 use borrow.Author.Tests.{not-true, not-false}
 use Rattle.records.proofs.Laws.Place.{pointers-inside}
@@ -65,7 +67,8 @@ copy-records-requires : tie.Need-copy-records-requires
 copy-records-requires c κs = let p = inside (c .before .before .before .before .before) in
     let few = c .before .before .before .smaller .ensures .2 in
     let least = c .before .before .smaller2 .ensures .2 in
-    (rw (c .before .before .before .before .before .before .before .before .before .before .before .ring-of .ensures) (sized-holds (c .before .before .before .before .before .before .before .before .before .before .before .before .before .before .before .before .args .geometry) (c .before .before .before .before .before .before .before .before .before .before .before .before .before .before .before .before .args .area .now) (known (c .before .before .before .before .before .before .before .before .before .before .before .before))), (p .read-inside, omega arith))
+    let low : c .before .before .before .before .unread-count .result < c .before .before .before .before .before .before .before .before .before .before .before .ring-of .result .length = rw (c .before .before .before .before .unread-count .ensures) (mod-lt _ (omega (arith, p .read-inside))) in
+    (rw (c .before .before .before .before .before .before .before .before .before .before .before .ring-of .ensures) (sized-holds (c .before .before .before .before .before .before .before .before .before .before .before .before .before .before .before .before .args .geometry) (c .before .before .before .before .before .before .before .before .before .before .before .before .before .before .before .before .args .area .now) (known (c .before .before .before .before .before .before .before .before .before .before .before .before))), (p .read-inside, omega (arith, low, c .before .before .smaller2 .ensures .1), omega arith))
 
 set-read-pointer-requires : tie.Need-set-read-pointer-requires
 set-read-pointer-requires c κs = pointers-inside _ _ (sized-holds (c .before .before .before .before .before .before .before .before .before .before .before .before .before .before .before .before .before .before .before .before .args .geometry) (c .before .before .before .before .before .before .before .before .before .before .before .before .before .before .before .before .before .before .before .before .args .area .now) (known (c .before .before .before .before .before .before .before .before .before .before .before .before .before .before .before .before)))

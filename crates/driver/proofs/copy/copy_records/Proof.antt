@@ -1,86 +1,84 @@
-use Prim.Native.Nat.{_+_, _≤_}
-use lib.ListN.{length}
-use borrow.Author.Needs.{needs}
 use native.Mathlib.Omega.{arith}
-use Rattle.records.proofs.Laws.Place.{place-inside}
-use Rattle.driver.proofs.Laws.CopyOut.{Turn, turn-begins, turn-goes-on, turn-ends}
+use Rattle.driver.proofs.Laws.CopyOut.{one-run, two-runs, both-copied}
+use borrow.Author.Needs.{needs}
 use Rattle.driver.proofs.copy.copy_records.Statement.{statement}
 use Rattle.driver.proofs.copy.copy_records.Tie as tie
 
-abbrev Inv-loop : tie.InvT-loop
-Inv-loop ring area first count out₀ index₀ at₀ left₀ out index at left = Turn ring area first count out₀ out index at left
+sub-until : tie.Need-sub-until
+sub-until c = search needs
 
-abbrev μ-loop : tie.MeasureT-loop
-μ-loop ring area first count out₀ index₀ at₀ left₀ out index at left = left
+cast-until : tie.Need-cast-until
+cast-until c = search needs
 
--- the record's eight bytes lie in the area
-inside : (c : tie.After-copy-arg Inv-loop μ-loop) → c .before .record-place .result + 8 ≤ length (c .before .before .before .before .before .before .args .area .now)
-inside c =
-    let s = c .before .before .before .before .before .before in
-    omega (arith, c .before .record-place .ensures, place-inside _ (s .args .ring) (s .pre .0) _ (c .before .before .before .loop .inv .inside))
+copy-run-requires : tie.Need-copy-run-requires
+copy-run-requires c κs = search needs
 
-loop-holds : tie.Need-loop-holds Inv-loop μ-loop
-loop-holds c = let s = c .before .before in
-    turn-begins (s .args .ring) (s .args .area .now) (s .pre .0) _ _ _ (s .pre .1 .0) (s .pre .1 .1)
+cast-result : tie.Need-cast-result
+cast-result c = search needs
 
-record-place-requires : tie.Need-record-place-requires Inv-loop μ-loop
-record-place-requires c κs = search needs
+add-result : tie.Need-add-result
+add-result c = search needs
 
-add-copy : tie.Need-add-copy Inv-loop μ-loop
-add-copy c = omega (arith, inside c)
+same-length : tie.Need-same-length
+same-length c = search needs
 
-sub-copy : tie.Need-sub-copy Inv-loop μ-loop
-sub-copy c = search needs
+returns : tie.Need-returns
+returns c = (one-run (c .before .before .before .before .before .before .before .before .args .ring) (c .before .before .before .before .before .before .before .before .args .area .now) (c .before .before .before .before .before .before .before .before .pre .0) (c .before .before .before .before .before .before .before .before .args .first) (c .before .before .before .before .before .before .before .before .args .count) (c .before .before .before .before .before .before .before .before .args .out .now) (c .before .before .before .before .before .before .before .before .pre .1 .0) (omega (arith, c .before .before .before .before .if1 .taken, c .before .before .before .before .before .before .before .before .pre)), c .before .before .copy-run .ensures)
 
-part-copy-start : tie.Need-part-copy-start Inv-loop μ-loop
-part-copy-start c = search needs
+copy-run-requires-2 : tie.Need-copy-run-requires-2
+copy-run-requires-2 c κs = search needs
 
-part-copy-end : tie.Need-part-copy-end Inv-loop μ-loop
-part-copy-end c = omega (arith, inside c)
+mul-at : tie.Need-mul-at
+mul-at c = search needs
 
-copy-requires : tie.Need-copy-requires Inv-loop μ-loop
-copy-requires c κs = omega (arith, c .before .before .before .before .loop .inv .room, c .before .before .before .loop-test .taken, c .copy-arg2 .given)
+mul-copy-run : tie.Need-mul-copy-run
+mul-copy-run c = search needs
 
-next-index-requires : tie.Need-next-index-requires Inv-loop μ-loop
-next-index-requires c κs = c .before .before .before .before .before .before .before .loop .inv .inside
+add-copy-run : tie.Need-add-copy-run
+add-copy-run c = search needs
 
-add-at : tie.Need-add-at Inv-loop μ-loop
-add-at c = omega (arith, c .before .before .before .before .before .before .before .before .loop .inv .room, c .before .before .before .before .before .before .before .before .loop .inv .remains .size, c .before .before .before .before .before .before .before .loop-test .taken, c .before .before .before .before .before .before .before .before .before .before .before .good)
+sub-copy-run : tie.Need-sub-copy-run
+sub-copy-run c = search needs
 
-sub-left : tie.Need-sub-left Inv-loop μ-loop
-sub-left c = omega (arith, c .before .before .before .before .before .before .before .loop-test .taken)
+part-copy-run-start : tie.Need-part-copy-run-start
+part-copy-run-start c = search needs
 
-loop-less : tie.Need-loop-less Inv-loop μ-loop
-loop-less c = omega (arith, c .before .before .before .before .before .before .before .loop-test .taken)
+part-copy-run-end : tie.Need-part-copy-run-end
+part-copy-run-end c = search needs
 
-loop-again : tie.Need-loop-again Inv-loop μ-loop
-loop-again c = let s = c .before .before .before .before .before .before .before .before .before .before .before in
-    turn-goes-on (s .args .ring) (s .args .area .now) (s .pre .0) (s .args .first) (s .args .count) (s .args .out .now) (c .before .before .before .before .before .before .before .before .loop .inv) (c .before .before .before .before .before .before .before .loop-test .taken) (c .before .before .before .before .before .before .record-place .ensures) (c .next-index .ensures) (c .before .before .before .copy .ensures)
+copy-run-requires-3 : tie.Need-copy-run-requires-3
+copy-run-requires-3 c κs = search needs
 
-same-length : tie.Need-same-length Inv-loop μ-loop
-same-length c = c .before .loop .inv .remains .size
+cast-result-2 : tie.Need-cast-result-2
+cast-result-2 c = search needs
 
-returns : tie.Need-returns Inv-loop μ-loop
-returns c = let s = c .before .before .before .before in
-    turn-ends (s .args .ring) (s .args .area .now) (s .pre .0) (s .args .first) (s .args .count) (s .args .out .now) (c .before .loop .inv) (omega arith)
+same-length-2 : tie.Need-same-length-2
+same-length-2 c = search needs
+
+returns-2 : tie.Need-returns-2
+returns-2 c =
+    let few = c .before .before .before .before .before .before .before .before .before .before .before .before .pre .1 .1 in
+    (two-runs (c .before .before .before .before .before .before .before .before .before .before .before .before .args .ring) (c .before .before .before .before .before .before .before .before .before .before .before .before .args .area .now) (c .before .before .before .before .before .before .before .before .before .before .before .before .pre .0) (c .before .before .before .before .before .before .before .before .before .before .before .before .args .first) (c .before .before .before .before .before .before .before .before .before .before .before .before .args .count) (c .before .before .before .before .before .before .before .before .before .before .before .before .args .out .now) (c .before .before .before .before .before .before .before .before .before .before .before .before .pre .1 .0) (omega (arith, c .before .before .before .before .before .before .before .before .if1 .left)) few, both-copied (c .before .before .before .before .before .before .before .before .before .before .before .before .args .ring) (c .before .before .before .before .before .before .before .before .before .before .before .before .args .area .now) (c .before .before .before .before .before .before .before .before .before .before .before .before .pre .0) (c .before .before .before .before .before .before .before .before .before .before .before .before .args .first) (c .before .before .before .before .before .before .before .before .before .before .before .before .args .count) (c .before .before .before .before .before .before .before .before .before .before .before .before .args .out .now) (c .before .before .before .before .before .before .before .before .before .before .before .before .pre .1 .0) (omega (arith, c .before .before .before .before .before .before .before .before .if1 .left)) few _ (c .before .before .before .before .before .before .before .before .before .before .before .before .pre .1 .2) (omega (arith, c .before .before .before .copy-run-arg3 .given)) (c .before .before .before .before .before .before .copy-run2 .ensures) (c .before .before .copy-run3 .ensures))
 
 pub copy-records-spec : {M : Type 1} → statement M
 copy-records-spec =
     tie.close
     (tie.spec
-    Inv-loop
-    μ-loop
-    loop-holds
-    record-place-requires
-    add-copy
-    sub-copy
-    part-copy-start
-    part-copy-end
-    copy-requires
-    next-index-requires
-    add-at
-    sub-left
-    loop-less
-    loop-again
+    sub-until
+    cast-until
+    copy-run-requires
+    cast-result
+    add-result
     same-length
-    returns)
+    returns
+    copy-run-requires-2
+    mul-at
+    mul-copy-run
+    add-copy-run
+    sub-copy-run
+    part-copy-run-start
+    part-copy-run-end
+    copy-run-requires-3
+    cast-result-2
+    same-length-2
+    returns-2)

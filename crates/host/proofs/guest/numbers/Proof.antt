@@ -2,9 +2,6 @@ use mathlib.Core.Path.{_∙_}
 use borrow.Author.Needs.{needs}
 use Rattle.host.proofs.guest.numbers.Statement.{statement}
 use Rattle.host.proofs.guest.numbers.Tie as tie
-use Rattle.host.proofs.guest.numbers.Reads as reads
-use Rattle.host.proofs.guest.numbers.Lts as lts
-use Rattle.host.proofs.guest.tell.Reads as tell-reads
 
 -- src/guest.rt:47:23
 enum-known-told : tie.Need-enum-known-told

@@ -2,10 +2,6 @@ use Rattle.host.proofs.Laws.Entry.{wrong-length, part-fits, copied}
 use borrow.Author.Needs.{needs}
 use Rattle.host.proofs.guest.thayarqo_lookup.Statement.{statement}
 use Rattle.host.proofs.guest.thayarqo_lookup.Tie as tie
-use Rattle.host.proofs.guest.thayarqo_lookup.Reads as reads
-use Rattle.host.proofs.guest.thayarqo_lookup.Lts as lts
-use Rattle.entries.proofs.lookup.Reads as lookup-reads
-use Rattle.words.proofs.copy.Reads as copy-reads
 
 -- src/guest.rt:111:9
 returns : tie.Need-returns

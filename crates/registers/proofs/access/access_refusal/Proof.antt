@@ -1,33 +1,28 @@
-use borrow.Author.Tests.{not-true, not-false}
-use Rattle.registers.specs.Access.{accessAnswer}
-use Rattle.answers.specs.Refusals.{firstRefusal}
 use mathlib.Core.Path.{sym, _∙_}
-use borrow.Author.Tests.{eq-eqb, le-leb, lt-leb, ne-eqb}
+use borrow.Author.Tests.{not-true, not-false, eq-eqb, le-leb, lt-leb, ne-eqb}
+use Rattle.answers.specs.Refusals.{firstRefusal}
 use borrow.Author.Needs.{needs}
 use Rattle.registers.proofs.access.access_refusal.Statement.{statement}
 use Rattle.registers.proofs.access.access_refusal.Tie as tie
 
-is-call-requires : tie.Need-is-call-requires
-is-call-requires c κs = search needs
-
 returns : tie.Need-returns
-unfolding accessAnswer firstRefusal
-returns c = rw (sym (c .before .is-call .ensures) ∙ not-true _ (c .if1 .taken))
+unfolding firstRefusal
+returns c = rw (not-true (c .before .args .called) (c .if1 .taken))
 
 returns-2 : tie.Need-returns-2
-unfolding accessAnswer firstRefusal
-returns-2 c = rw (sym (c .before .before .is-call .ensures) ∙ not-false _ (c .before .if1 .left), ne-eqb _ _ (c .if2 .taken))
+unfolding firstRefusal
+returns-2 c = rw (not-false (c .before .before .args .called) (c .before .if1 .left), ne-eqb _ _ (c .if2 .taken))
 
 returns-3 : tie.Need-returns-3
-unfolding accessAnswer firstRefusal
-returns-3 c = rw (sym (c .before .before .before .is-call .ensures) ∙ not-false _ (c .before .before .if1 .left), eq-eqb _ _ (c .before .if2 .left), ne-eqb _ _ (c .if3 .taken))
+unfolding firstRefusal
+returns-3 c = rw (not-false (c .before .before .before .args .called) (c .before .before .if1 .left), eq-eqb _ _ (c .before .if2 .left), ne-eqb _ _ (c .if3 .taken))
 
 bar-length-requires : tie.Need-bar-length-requires
 bar-length-requires c κs = search needs
 
 returns-4 : tie.Need-returns-4
-unfolding accessAnswer firstRefusal
-returns-4 c = rw (sym (c .before .before .before .before .before .is-call .ensures) ∙ not-false _ (c .before .before .before .before .if1 .left), eq-eqb _ _ (c .before .before .before .if2 .left), eq-eqb _ _ (c .before .before .if3 .left), ← c .before .bar-length .ensures, le-leb _ _ (c .if4 .taken))
+unfolding firstRefusal
+returns-4 c = rw (not-false (c .before .before .before .before .before .args .called) (c .before .before .before .before .if1 .left), eq-eqb _ _ (c .before .before .before .if2 .left), eq-eqb _ _ (c .before .before .if3 .left), ← c .before .bar-length .ensures, le-leb _ _ (c .if4 .taken))
 
 place-of-requires : tie.Need-place-of-requires
 place-of-requires c κs = search needs
@@ -36,29 +31,28 @@ is-nothing-requires : tie.Need-is-nothing-requires
 is-nothing-requires c κs = search needs
 
 returns-5 : tie.Need-returns-5
-unfolding accessAnswer firstRefusal
-returns-5 c = rw (sym (c .before .before .before .before .before .before .before .before .is-call .ensures) ∙ not-false _ (c .before .before .before .before .before .before .before .if1 .left), eq-eqb _ _ (c .before .before .before .before .before .before .if2 .left), eq-eqb _ _ (c .before .before .before .before .before .if3 .left), ← c .before .before .before .before .bar-length .ensures, lt-leb _ _ (c .before .before .before .if4 .left), ← c .before .before .place-of .ensures, sym (c .before .is-nothing .ensures) ∙ c .if5 .taken)
+unfolding firstRefusal
+returns-5 c = rw (not-false (c .before .before .before .before .before .before .before .before .args .called) (c .before .before .before .before .before .before .before .if1 .left), eq-eqb _ _ (c .before .before .before .before .before .before .if2 .left), eq-eqb _ _ (c .before .before .before .before .before .if3 .left), ← c .before .before .before .before .bar-length .ensures, lt-leb _ _ (c .before .before .before .if4 .left), ← c .before .before .place-of .ensures, sym (c .before .is-nothing .ensures) ∙ c .if5 .taken)
 
 returns-6 : tie.Need-returns-6
-unfolding accessAnswer firstRefusal
-returns-6 c = rw (sym (c .before .before .before .before .before .before .before .before .before .is-call .ensures) ∙ not-false _ (c .before .before .before .before .before .before .before .before .if1 .left), eq-eqb _ _ (c .before .before .before .before .before .before .before .if2 .left), eq-eqb _ _ (c .before .before .before .before .before .before .if3 .left), ← c .before .before .before .before .before .bar-length .ensures, lt-leb _ _ (c .before .before .before .before .if4 .left), ← c .before .before .before .place-of .ensures, sym (c .before .before .is-nothing .ensures) ∙ c .before .if5 .left, not-true (c .before .before .before .before .before .before .before .before .before .before .args .writes) (c .if6 .taken))
+unfolding firstRefusal
+returns-6 c = rw (not-false (c .before .before .before .before .before .before .before .before .before .args .called) (c .before .before .before .before .before .before .before .before .if1 .left), eq-eqb _ _ (c .before .before .before .before .before .before .before .if2 .left), eq-eqb _ _ (c .before .before .before .before .before .before .if3 .left), ← c .before .before .before .before .before .bar-length .ensures, lt-leb _ _ (c .before .before .before .before .if4 .left), ← c .before .before .before .place-of .ensures, sym (c .before .before .is-nothing .ensures) ∙ c .before .if5 .left, not-true (c .before .before .before .before .before .before .before .before .before .args .writes) (c .if6 .taken))
 
 is-read-only-requires : tie.Need-is-read-only-requires
 is-read-only-requires c κs = search needs
 
 returns-7 : tie.Need-returns-7
-unfolding accessAnswer firstRefusal
-returns-7 c = rw (sym (c .before .before .before .before .before .before .before .before .before .before .before .is-call .ensures) ∙ not-false _ (c .before .before .before .before .before .before .before .before .before .before .if1 .left), eq-eqb _ _ (c .before .before .before .before .before .before .before .before .before .if2 .left), eq-eqb _ _ (c .before .before .before .before .before .before .before .before .if3 .left), ← c .before .before .before .before .before .before .before .bar-length .ensures, lt-leb _ _ (c .before .before .before .before .before .before .if4 .left), ← c .before .before .before .before .before .place-of .ensures, sym (c .before .before .before .before .is-nothing .ensures) ∙ c .before .before .before .if5 .left, not-false (c .before .before .before .before .before .before .before .before .before .before .before .before .args .writes) (c .before .before .if6 .left), sym (c .before .is-read-only .ensures) ∙ c .if7 .taken)
+unfolding firstRefusal
+returns-7 c = rw (not-false (c .before .before .before .before .before .before .before .before .before .before .before .args .called) (c .before .before .before .before .before .before .before .before .before .before .if1 .left), eq-eqb _ _ (c .before .before .before .before .before .before .before .before .before .if2 .left), eq-eqb _ _ (c .before .before .before .before .before .before .before .before .if3 .left), ← c .before .before .before .before .before .before .before .bar-length .ensures, lt-leb _ _ (c .before .before .before .before .before .before .if4 .left), ← c .before .before .before .before .before .place-of .ensures, sym (c .before .before .before .before .is-nothing .ensures) ∙ c .before .before .before .if5 .left, not-false (c .before .before .before .before .before .before .before .before .before .before .before .args .writes) (c .before .before .if6 .left), sym (c .before .is-read-only .ensures) ∙ c .if7 .taken)
 
 returns-8 : tie.Need-returns-8
-unfolding accessAnswer firstRefusal
-returns-8 c = rw (sym (c .before .before .before .before .before .before .before .before .before .before .before .is-call .ensures) ∙ not-false _ (c .before .before .before .before .before .before .before .before .before .before .if1 .left), eq-eqb _ _ (c .before .before .before .before .before .before .before .before .before .if2 .left), eq-eqb _ _ (c .before .before .before .before .before .before .before .before .if3 .left), ← c .before .before .before .before .before .before .before .bar-length .ensures, lt-leb _ _ (c .before .before .before .before .before .before .if4 .left), ← c .before .before .before .before .before .place-of .ensures, sym (c .before .before .before .before .is-nothing .ensures) ∙ c .before .before .before .if5 .left, not-false (c .before .before .before .before .before .before .before .before .before .before .before .before .args .writes) (c .before .before .if6 .left), sym (c .before .is-read-only .ensures) ∙ c .if7 .left)
+unfolding firstRefusal
+returns-8 c = rw (not-false (c .before .before .before .before .before .before .before .before .before .before .before .args .called) (c .before .before .before .before .before .before .before .before .before .before .if1 .left), eq-eqb _ _ (c .before .before .before .before .before .before .before .before .before .if2 .left), eq-eqb _ _ (c .before .before .before .before .before .before .before .before .if3 .left), ← c .before .before .before .before .before .before .before .bar-length .ensures, lt-leb _ _ (c .before .before .before .before .before .before .if4 .left), ← c .before .before .before .before .before .place-of .ensures, sym (c .before .before .before .before .is-nothing .ensures) ∙ c .before .before .before .if5 .left, not-false (c .before .before .before .before .before .before .before .before .before .before .before .args .writes) (c .before .before .if6 .left), sym (c .before .is-read-only .ensures) ∙ c .if7 .left)
 
 pub access-refusal-spec : {M : Type 1} → statement M
 access-refusal-spec =
     tie.close
     (tie.spec
-    is-call-requires
     returns
     returns-2
     returns-3
