@@ -1,0 +1,23 @@
+-- The cases, by computation.
+use mathlib.Core.Path.{refl}
+use Rattle.answers.specs.Refusals.{firstRefusal}
+use Rattle.words.specs.Words.{overwrite}
+use Rattle.bits.specs.Bits.{bit}
+use Rattle.geometry.specs.Geometry.{isRecordSize, isEntrySize, allowed}
+use Rattle.records.specs.Event.{eventBytes, eventAt, eventsFrom}
+use Rattle.records.specs.Ring.{putRecord}
+use Rattle.records.specs.Put.{putRecords, indexAfter}
+use Rattle.entries.specs.Offer.{offersCode, isOffered}
+use Rattle.device.specs.State.{clientRevRule, currentRule, isDevice}
+use Rattle.device.specs.Call.{isSized, isCall}
+use Rattle.packets.specs.Packet.{allOffered}
+use Rattle.packets.specs.Rule.{packetAnswer, packetOf}
+use Rattle.registers.specs.Access.{accessAnswer}
+use Rattle.registers.specs.Place.{placeIn, placeOf}
+use Rattle.registers.specs.SwitchOn.{takenFrom, switchOn}
+use Rattle.registers.specs.Write.{controlOf, writeOf}
+use Rattle.cases.specs.Cases.{Cases}
+
+pub all-right : Cases
+unfolding firstRefusal overwrite bit isRecordSize isEntrySize allowed eventBytes eventAt eventsFrom putRecord putRecords indexAfter offersCode isOffered clientRevRule currentRule isDevice isSized isCall allOffered packetAnswer packetOf accessAnswer placeIn placeOf takenFrom switchOn controlOf writeOf
+all-right = (refl, (refl, (refl, (refl, (refl, (refl, (refl, (refl, (refl, (refl, (refl, (refl, (refl, (refl, (refl, (refl, (refl, (refl, (refl, (refl, (refl, tt)))))))))))))))))))))

@@ -1,0 +1,65 @@
+-- The devices, pages and packets that the cases speak of.
+use Prim.Native.Nat.{ℕ, zero, suc}
+use mathlib.Core.Bool.{true, false}
+use mathlib.Core.List.{List, [], _++_}
+use lib.ListN.{replicate}
+use Rattle.words.specs.Words.{setU32}
+use Rattle.geometry.specs.declared.Geometry.{Geometry}
+use Rattle.records.specs.Event.{eventBytes}
+use Rattle.records.specs.Codes.{EV-REL, noSlot}
+use Rattle.records.specs.Ring.{withReadPointer, withWritePointer}
+use Rattle.device.specs.declared.Device.{Device}
+
+abbrev pub sizes : ℕ → ℕ → ℕ → Geometry
+sizes pages recordSize entrySize = record { pages = pages; «record_size» = recordSize; «entry_size» = entrySize }
+
+-- One page of records of 8 bytes, R = 511, and one of records of 64 bytes, R = 63.
+abbrev pub fine : Geometry
+fine = sizes 1 8 68
+
+abbrev pub coarse : Geometry
+coarse = sizes 1 64 68
+
+-- Slot 4 is taken, by a device with SYN and REL.
+abbrev pub page : List ℕ
+page = setU32 (replicate 4096 0) 312 5
+
+abbrev pub off : Device
+off = record {
+  on = false;
+  interrupts = false;
+  isr = false;
+  lost = false;
+  «client_rev_written» = true;
+  «client_rev» = 2;
+  «write_index» = 0;
+  «current_slot» = noSlot;
+  taken = 16;
+}
+
+-- Slot 4 is current, and so many records have been put.
+abbrev pub on : ℕ → Device
+on index = record {
+  on = true;
+  interrupts = false;
+  isr = false;
+  lost = false;
+  «client_rev_written» = true;
+  «client_rev» = 2;
+  «write_index» = index;
+  «current_slot» = 4;
+  taken = 16;
+}
+
+-- An event area with these pointers.
+abbrev pub area : ℕ → ℕ → List ℕ
+area read write = withWritePointer (withReadPointer (replicate 4096 0) read) write
+
+-- A packet of so many motions.
+abbrev pub motions : ℕ → List ℕ
+motions zero = []
+motions (suc count) = eventBytes (record { kind = EV-REL; code = 0; value = 1 }) ++ motions count
+
+-- An entry that offers ABS, with one bit in absbits' second word.
+abbrev pub absolute : ℕ → List ℕ
+absolute mask = setU32 (setU32 (replicate 68 0) 40 9) 48 mask
