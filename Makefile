@@ -1,6 +1,6 @@
 # Needs the Rattle kit (rt) on the PATH.
 .POSIX:
-.PHONY: help test run install uninstall fmt clean
+.PHONY: help test bench run install uninstall fmt clean
 
 PREFIX = /usr/local
 DESTDIR =
@@ -9,6 +9,7 @@ ROOT = $(DESTDIR)$(PREFIX)
 
 help:
 	@echo 'make test    prove every crate and run every test'
+	@echo 'make bench   measure the library against plain C'
 	@echo 'make run     list a sample capture'
 	@echo 'make install PREFIX=DIR    put the header, the library and the programs in place; uninstall takes them away'
 	@echo 'make fmt     format the sources of the crates'
@@ -16,6 +17,10 @@ help:
 
 test:
 	@tests/run
+
+bench:
+	rt staticlib host
+	bench/run
 
 run:
 	rt check listing
