@@ -24,6 +24,8 @@ pub enum Decoded {
     Refused(u8),
 }
 
+const FIELDS_END: usize = 16;
+
 // Where an event's head ends, and where its fields start and end.
 struct Extent {
     head: usize,
@@ -164,6 +166,8 @@ fn is_zero(stretch: &[u8]) -> bool
     rest_is_zero(stretch, i)
 }
 
+// No event has a field past byte 16, so the bytes from there on are tested apart, by a loop that is unrolled. What is unknown has no
+// reserved bytes.
 fn reserved_is_zero(bytes: &[u8], event: RingEvent) -> bool
     requires { ⌜ length (now bytes) ≡ eventLength ⌝ }
     ensures { λ r. ⌜ r ≡ reservedIsZero (now (bytes .entry)) event ⌝ }
@@ -172,10 +176,16 @@ fn reserved_is_zero(bytes: &[u8], event: RingEvent) -> bool
     let head = extent.head;
     let start = extent.start;
     let end = extent.end;
+    if end > FIELDS_END {
+        return true;
+    }
     if !is_zero(&bytes[head..start]) {
         return false;
     }
-    is_zero(&bytes[end..EVENT_LENGTH])
+    if !is_zero(&bytes[end..FIELDS_END]) {
+        return false;
+    }
+    is_zero(&bytes[FIELDS_END..EVENT_LENGTH])
 }
 
 fn pressed_above_one(bytes: &[u8]) -> bool

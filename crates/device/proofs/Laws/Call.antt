@@ -1,7 +1,7 @@
 -- What is known of a call that is not refused with 1.
 use Prim.Native.Nat.{ℕ, _^_, _<_}
-use mathlib.Core.Path.{_≡_, refl, sym, ap, _∙_}
-use mathlib.Core.Bool.{Bool, true, false, _&&_, false≢true}
+use mathlib.Core.Path.{_≡_, sym, ap, _∙_}
+use mathlib.Core.Bool.{Bool, true, _&&_, and-assoc, false≢true}
 use native.Mathlib.Omega.{arith}
 use native.Mathlib.Decide.{decLt}
 use lib.Dec.{ltb, eqb}
@@ -61,10 +61,6 @@ pub sized-allowed : (geometry : Geometry) (areaSize pageSize : ℕ) → isSized 
 unfolding isSized
 sized-allowed geometry areaSize pageSize h = both (allowed geometry) _ h .0
 
-and-associative : (a b c : Bool) → ((a && b) && c) ≡ (a && (b && c))
-and-associative true b c = refl
-and-associative false b c = refl
-
 -- the numbers that the geometry bounds first, then the rest of the state
 pub call-tests : (geometry : Geometry) (device : Device) (areaSize pageSize : ℕ)
     → (isFitting geometry areaSize pageSize (device .«write_index») (device .taken) && (clientRevRule device && currentRule device)) ≡ isCall geometry device areaSize pageSize
@@ -74,7 +70,7 @@ call-tests geometry device areaSize pageSize =
     let index : Bool = ltb (device .«write_index») (ringLength geometry) in
     let slots : Bool = ltb (device .taken) (2 ^ slotCount geometry) in
     let rest : Bool = clientRevRule device && currentRule device in
-    and-associative size (index && slots) rest ∙ ap (λ (test : Bool). size && test) (and-associative index slots rest)
+    and-assoc size (index && slots) rest ∙ ap (λ (test : Bool). size && test) (and-assoc index slots rest)
 
 -- a taken slot is in range
 pub taken-slot : (geometry : Geometry) (device : Device) (slot : ℕ) → Rules geometry device → isTaken device slot ≡ true → slot < slotCount geometry

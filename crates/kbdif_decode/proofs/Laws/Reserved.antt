@@ -1,16 +1,16 @@
 -- Laws of a stretch of zero bytes, tested one after the other.
-use Prim.Native.Nat.{ℕ, zero, suc, _+_, _≤_, _<_}
-use mathlib.Core.Path.{_≡_, refl, sym, _∙_}
-use mathlib.Core.Bool.{Bool, true, false, _&&_, and-eq-true-iff}
-use mathlib.Core.List.{List, [], _∷_}
+use Prim.Native.Nat.{ℕ, zero, suc, _+_, _-_, _≤_, _<_}
+use mathlib.Core.Path.{_≡_, refl, sym, ap, _∙_}
+use mathlib.Core.Bool.{Bool, true, false, _&&_, and-eq-true-iff, and-assoc}
+use mathlib.Core.List.{List, [], _∷_, _++_}
 use native.Mathlib.Omega.{arith}
 use native.Mathlib.Numerals.{add-one}
 use lib.Dec.{eqb}
-use lib.ListN.{length, getD, drop, drop-of-length-le}
-use lib.Seq.{drop-cons}
+use lib.ListN.{length, getD, take, drop, drop-of-length-le}
+use lib.Seq.{drop-cons, drop-drop, take-add}
 use borrow.Author.Tests.{eq-eqb, ne-eqb, eqb-true}
 use Rattle.words.specs.Words.{u32At}
-use Rattle.kbdif_decode.specs.Decode.{allZero}
+use Rattle.kbdif_decode.specs.Decode.{allZero, between}
 
 -- the bytes before i are zero, so the rest decides
 pub record ZeroSoFar (bytes : List ℕ) (i : ℕ) : Type 0 where
@@ -61,3 +61,20 @@ module _ (bytes : List ℕ) (i : ℕ) (so-far : ZeroSoFar bytes i) (room : i + 4
       go : (test : Bool) → allZero bytes ≡ test → false ≡ allZero bytes
       go false e = sym e
       go true e = absurd (some (omega (arith, zero-at bytes e i, zero-at bytes e (i + 1), zero-at bytes e (i + 2), zero-at bytes e (i + 3))))
+
+-- ---- two stretches, one after the other
+
+zero-append : (first second : List ℕ) → allZero (first ++ second) ≡ (allZero first && allZero second)
+unfolding allZero
+zero-append [] second = refl
+zero-append (byte ∷ rest) second = rw (zero-append rest second) (sym (and-assoc (eqb byte 0) (allZero rest) (allZero second)))
+
+pub zero-between : (bytes : List ℕ) (from middle until : ℕ) → from ≤ middle → middle ≤ until
+    → allZero (between bytes from until) ≡ (allZero (between bytes from middle) && allZero (between bytes middle until))
+zero-between bytes from middle until low high =
+    let sum : until - from ≡ middle - from + (until - middle) = omega arith in
+    let there : from + (middle - from) ≡ middle = omega arith in
+    ap (λ (n : ℕ). allZero (take n (drop from bytes))) sum
+    ∙ ap allZero (take-add (middle - from) (until - middle) (drop from bytes))
+    ∙ zero-append (take (middle - from) (drop from bytes)) (take (until - middle) (drop (middle - from) (drop from bytes)))
+    ∙ ap (λ (rest : List ℕ). allZero (between bytes from middle) && allZero (take (until - middle) rest)) (drop-drop (middle - from) from bytes ∙ ap (λ (n : ℕ). drop n bytes) there)
