@@ -31,6 +31,14 @@ macro_rules! codes {
                 _ => None,
             }
         }
+
+        /// The type and the code that a name stands for.
+        pub fn code_named(name: &str) -> Option<(u16, u16)> {
+            match name {
+                $(stringify!($name) => Some(($kind, $name)),)*
+                _ => None,
+            }
+        }
     };
 }
 
@@ -55,6 +63,8 @@ codes! {
     EV_REL REL_WHEEL = 0x08, "Movement of the wheel.";
     EV_ABS ABS_X = 0x00, "Position from the left.";
     EV_ABS ABS_Y = 0x01, "Position from the top.";
+    EV_ABS ABS_WHEEL = 0x08, "Position of a wheel.";
+    EV_ABS ABS_GAS = 0x09, "How far a pedal is down.";
     EV_ABS ABS_PRESSURE = 0x18, "Pressure of the pen or tool.";
     EV_ABS ABS_MT_SLOT = 0x2f, "The contact that the next events are about.";
     EV_ABS ABS_MT_POSITION_X = 0x35, "The contact's position from the left.";

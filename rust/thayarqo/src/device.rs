@@ -61,14 +61,20 @@ impl Device {
     /// Puts a packet whole, or not at all. [`Refusal::NoRoom`] and [`Refusal::BadIndex`] set the lost mark: the guest is told of a
     /// gap before the next packet that is put.
     pub fn put_packet(&mut self, packet: &Packet) -> Answer<()> {
+        let mut buffer = [0; sys::PACKET_LENGTH];
+        self.put_packet_bytes(packet.source().number(), packet.bytes(&mut buffer))
+    }
+
+    /// Puts a packet of events' bytes, which may be too few, too many or no whole events: these too get their answer.
+    pub fn put_packet_bytes(&mut self, slot: u32, events: &[u8]) -> Answer<()> {
         let geometry = self.geometry.numbers();
         Refusal::check(call::put_packet(
             &mut self.state,
             geometry,
             &mut self.area,
             &self.page,
-            packet.source().number(),
-            packet.bytes(&mut [0; sys::PACKET_LENGTH]),
+            slot,
+            events,
         ))
     }
 
@@ -122,6 +128,12 @@ impl Device {
     /// The entry page.
     pub fn page(&self) -> &[u8] {
         &self.page
+    }
+
+    /// The entry page, as a guest may write it where nothing hinders it: the device takes from it which events a slot offers. A
+    /// [`LiveDevice`](crate::live::LiveDevice) has an entry page that no guest reaches.
+    pub fn page_mut(&mut self) -> &mut [u8] {
+        &mut self.page
     }
 
     /// Whether the guest has switched the device on.

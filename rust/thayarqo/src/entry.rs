@@ -1,5 +1,6 @@
 //! Device entries: what a slot is called, and which events it offers.
-use crate::codes::{BTN_0, EV_ABS, EV_KEY, EV_REL, EV_SYN};
+use crate::codes::{BTN_0, EV_ABS, EV_KEY, EV_REL, EV_SYN, SYN_MT_REPORT};
+use std::ops::Range;
 use thayarqo_sys as sys;
 
 /// Bytes of an entry that have a meaning.
@@ -12,14 +13,20 @@ const EVBITS: usize = 40;
 const ABSBITS: usize = 44;
 const BTNBITS: usize = 56;
 
+/// The codes that can be offered.
+const REL_CODES: u16 = 32;
+const ABS_CODES: u16 = 64;
+const KEY_CODES: Range<u16> = BTN_0..BTN_0 + 96;
+
 /// The entry of a slot.
 ///
 /// ```
-/// use thayarqo::codes::{BTN_LEFT, BTN_RIGHT};
+/// use thayarqo::codes::{ABS_X, BTN_LEFT, BTN_RIGHT, EV_ABS, EV_KEY};
 /// use thayarqo::Entry;
 ///
 /// let mouse = Entry::new("mouse").offer_rel().offer_key(BTN_LEFT).offer_key(BTN_RIGHT);
 /// assert_eq!(mouse.name(), b"mouse");
+/// assert!(mouse.offers(EV_KEY, BTN_LEFT) && !mouse.offers(EV_ABS, ABS_X));
 /// ```
 #[derive(Clone, Copy, Debug, PartialEq, Eq)]
 pub struct Entry([u8; KNOWN_ENTRY_LENGTH]);
@@ -40,7 +47,7 @@ impl Entry {
 
     /// With positions of a code, below 64. Another code can't be offered: it changes nothing.
     pub fn offer_abs(self, code: u16) -> Entry {
-        if code >= 64 {
+        if code >= ABS_CODES {
             return self;
         }
         self.offer(EV_ABS).with_bit(ABSBITS, code)
@@ -48,7 +55,7 @@ impl Entry {
 
     /// With a button, from `BTN_0` to 0x15F. Another code can't be offered: it changes nothing.
     pub fn offer_key(self, code: u16) -> Entry {
-        if !(BTN_0..BTN_0 + 96).contains(&code) {
+        if !KEY_CODES.contains(&code) {
             return self;
         }
         self.offer(EV_KEY).with_bit(BTNBITS, code - BTN_0)
@@ -62,6 +69,22 @@ impl Entry {
     fn with_bit(mut self, place: usize, bit: u16) -> Entry {
         self.0[place + usize::from(bit / 8)] |= 1 << (bit % 8);
         self
+    }
+
+    /// Whether a slot with this entry may send events of a type and code.
+    pub fn offers(&self, kind: u16, code: u16) -> bool {
+        let is_among_codes = match kind {
+            EV_SYN => code == SYN_MT_REPORT,
+            EV_KEY => KEY_CODES.contains(&code) && self.has_bit(BTNBITS, code - BTN_0),
+            EV_REL => code < REL_CODES,
+            EV_ABS => code < ABS_CODES && self.has_bit(ABSBITS, code),
+            _ => false,
+        };
+        is_among_codes && self.has_bit(EVBITS, kind)
+    }
+
+    fn has_bit(&self, place: usize, bit: u16) -> bool {
+        self.0[place + usize::from(bit / 8)] >> (bit % 8) & 1 == 1
     }
 
     /// The name, without the zeros that fill it up.

@@ -1,6 +1,6 @@
 //! Every refusal is reached, by its name and number, and says why in words of its own.
 use std::collections::HashSet;
-use thayarqo::codes::{ABS_X, REL_X};
+use thayarqo::codes::{ABS_X, BTN_LEFT, REL_X};
 use thayarqo::register::{CLIENT_REV, CONTROL, CONTROL_ON, MAGIC, READ_PTR};
 use thayarqo::{Answer, Device, Driver, Entry, Event, Geometry, Packet, Refusal, Settings};
 
@@ -76,6 +76,50 @@ fn packets_are_refused() -> Answer<()> {
     device.put_packet(&motions(32))?;
     assert_eq!(device.put_packet(&motions(32)), Err(Refusal::NoRoom));
     assert!(device.has_lost());
+    Ok(())
+}
+
+#[test]
+fn events_that_are_no_packet_are_refused() -> Answer<()> {
+    let mut device = running_device()?;
+    assert_eq!(
+        Device::new(device.geometry()).put_packet_bytes(4, &[]),
+        Err(Refusal::DeviceOff)
+    );
+    assert_eq!(device.put_packet_bytes(5, &[]), Err(Refusal::BadSlot));
+    assert_eq!(device.put_packet_bytes(4, &[]), Err(Refusal::Malformed));
+    assert_eq!(device.put_packet_bytes(4, &[0; 8 * 33]), Err(Refusal::Malformed));
+    assert_eq!(device.put_packet_bytes(4, &[2; 7]), Err(Refusal::Invalid));
+    device.put_packet_bytes(4, &Event::rel(REL_X, 1).bytes())
+}
+
+#[test]
+fn an_entry_offers_what_the_library_accepts() -> Answer<()> {
+    let geometry = Geometry::new(8, 8, 68)?;
+    let entries = [
+        Entry::new("mouse").offer_rel().offer_key(BTN_LEFT),
+        Entry::new("pen").offer_abs(ABS_X).offer_abs(63).offer_key(0x15F),
+    ];
+    for entry in entries {
+        let mut device = Device::new(geometry);
+        device.add(4, &entry)?;
+        device.write(CLIENT_REV, 4, 2)?;
+        device.write(CONTROL, 4, CONTROL_ON)?;
+        for (kind, code) in (0..8).flat_map(|kind| (0..0x170).map(move |code| (kind, code))) {
+            let event = Event { kind, code, value: 1 };
+            let answer = device.put_packet(&Packet::new(4, &[event])?);
+            assert_eq!(answer.is_ok(), entry.offers(kind, code), "{event}");
+        }
+    }
+    Ok(())
+}
+
+#[test]
+fn an_offer_is_the_entry_pages() -> Answer<()> {
+    let mut device = running_device()?;
+    device.page_mut().fill(0);
+    assert_eq!(device.put_packet(&motions(1)), Err(Refusal::NotOffered));
+    assert_eq!(device.page(), [0; thayarqo::PAGE_LENGTH]);
     Ok(())
 }
 
