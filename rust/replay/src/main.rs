@@ -1,0 +1,56 @@
+//! Runs a script of calls on the proved library, and tells each answer and what the guest receives.
+mod command;
+mod forms;
+mod guest;
+mod help;
+mod names;
+mod outcome;
+mod script;
+mod words;
+mod world;
+
+use std::ffi::OsString;
+use std::fs::File;
+use std::io::{self, BufRead, BufReader, ErrorKind, Write};
+use std::process::ExitCode;
+
+/// A line of the script is bad.
+const BAD_LINE: u8 = 1;
+/// The arguments are wrong, or the script can't be read.
+const BAD_USAGE: u8 = 2;
+
+fn fail(why: &str) -> ExitCode {
+    eprintln!("thayarqo-replay: {why}");
+    ExitCode::from(BAD_USAGE)
+}
+
+fn run(script: impl BufRead) -> ExitCode {
+    match script::play(script, &mut io::stdout().lock()) {
+        Ok(true) => ExitCode::SUCCESS,
+        Ok(false) => ExitCode::from(BAD_LINE),
+        // Whoever reads the output has seen enough.
+        Err(error) if error.kind() == ErrorKind::BrokenPipe => ExitCode::SUCCESS,
+        Err(error) => fail(&error.to_string()),
+    }
+}
+
+fn run_file(path: OsString) -> ExitCode {
+    match File::open(&path) {
+        Ok(file) => run(BufReader::new(file)),
+        Err(error) => fail(&format!("{}: {error}", path.display())),
+    }
+}
+
+fn main() -> ExitCode {
+    let mut arguments = std::env::args_os().skip(1);
+    match (arguments.next(), arguments.next()) {
+        (None, _) => run(io::stdin().lock()),
+        (Some(word), None) if word == "--help" => {
+            // It doesn't matter whether anyone reads it to its end.
+            let _ = writeln!(io::stdout(), "{}", help::text());
+            ExitCode::SUCCESS
+        }
+        (Some(word), None) if !word.as_encoded_bytes().starts_with(b"-") => run_file(word),
+        (Some(_), _) => fail(help::USAGE),
+    }
+}

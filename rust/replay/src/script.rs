@@ -1,0 +1,81 @@
+//! A script from its first line to its last.
+use crate::forms;
+use crate::world::World;
+use std::io::{self, BufRead, Write};
+use thayarqo::Geometry;
+
+/// Runs every line and writes what it came to. True where every line was good.
+pub fn play(script: impl BufRead, out: &mut impl Write) -> io::Result<bool> {
+    let geometry = Geometry::new(1, 8, 68).expect("the smallest sizes");
+    let mut world = World::new(geometry);
+    let mut all_good = true;
+    for (number, line) in (1..).zip(script.split(b'\n')) {
+        let line = String::from_utf8_lossy(&line?).trim_end().to_string();
+        let (command, _) = line.split_once('#').unwrap_or((&line, ""));
+        let command = command.trim();
+        if command.is_empty() {
+            writeln!(out, "{line}")?;
+            continue;
+        }
+        match forms::command(command).and_then(|parsed| world.run(&parsed)) {
+            Ok(outcome) => writeln!(out, "{command}: {outcome}")?,
+            Err(wrong) => {
+                all_good = false;
+                writeln!(out, "{command}: bad line {number}, {wrong}")?;
+            }
+        }
+    }
+    Ok(all_good)
+}
+
+#[cfg(test)]
+mod tests {
+    use super::*;
+
+    fn played(script: &[u8]) -> (String, bool) {
+        let mut out = Vec::new();
+        let all_good = play(script, &mut out).expect("memory is read and written");
+        (String::from_utf8(out).expect("text"), all_good)
+    }
+
+    #[test]
+    fn comments_and_empty_lines_are_kept() {
+        let script = b"# A tour.\n\n  on interrupts # with a comment\r\nread ISR";
+        let shown = "# A tour.\n\non interrupts: done\nread ISR: done, 0 (0x0)\n";
+        assert_eq!(played(script), (shown.into(), true));
+    }
+
+    #[test]
+    fn a_bad_line_is_named_and_the_rest_goes_on() {
+        let script = b"on\n\nof\noff\npoke page 4095 1 2\n\xff\n";
+        let shown = "on: done\n\nof: bad line 3, of is no command\noff: done\n\
+                     poke page 4095 1 2: bad line 5, this memory ends at 4096\n\
+                     \u{fffd}: bad line 6, \u{fffd} is no command\n";
+        assert_eq!(played(script), (shown.into(), false));
+    }
+
+    #[test]
+    fn a_refusal_is_no_bad_line() {
+        let (shown, all_good) = played(b"packet 4\n");
+        assert_eq!(shown, "packet 4: refused, 5, the device is off\n");
+        assert!(all_good);
+    }
+
+    #[test]
+    fn any_read_pointer_is_answered() {
+        for command in ["records", "copy 5", "step", "drain"] {
+            let (shown, _) = played(format!("poke area 0 255 255 255 255\n{command}\n").as_bytes());
+            assert!(shown.contains(&format!("\n{command}: refused, 10, ")), "{shown}");
+        }
+    }
+
+    #[test]
+    fn a_refused_geometry_leaves_the_device() {
+        let (shown, _) = played(b"add 4 pen\ngeometry 9 8 68\nlookup 4\ngeometry 1 64 256\nlookup 4\n");
+        let lines: Vec<&str> = shown.lines().collect();
+        assert!(lines[1].starts_with("geometry 9 8 68: refused, 1, "));
+        assert_eq!(lines[3], "    guest: entry pen offers nothing");
+        assert_eq!(lines[4], "geometry 1 64 256: done, a ring of 63 records, 16 slots");
+        assert!(lines[5].starts_with("lookup 4: refused, 6, "));
+    }
+}
