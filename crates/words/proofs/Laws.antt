@@ -1,4 +1,4 @@
 pub mod Overwrite
 pub mod Remains
 pub mod Word
-pub mod Eight
+pub mod Part

@@ -3,6 +3,7 @@ use Prim.Native.Nat.{ℕ, _+_, _*_, _/_, _%_, _≤_, _<_}
 use mathlib.Core.Path.{_≡_}
 use mathlib.Core.List.{List, [], _∷_, _++_}
 use lib.ListN.{length, getD, take, drop}
+use Rattle.words.specs.declared.Four.{Four}
 
 -- The bytes of a 16-bit and of a 32-bit word, lowest first.
 abbrev pub u16Bytes : ℕ → List ℕ
@@ -32,6 +33,9 @@ setU16 bytes at value = overwrite bytes at (u16Bytes value)
 
 abbrev pub setU32 : List ℕ → ℕ → ℕ → List ℕ
 setU32 bytes at value = overwrite bytes at (u32Bytes value)
+
+abbrev pub fourBytes : Four → List ℕ
+fourBytes four = four .first ∷ four .second ∷ four .third ∷ four .fourth ∷ []
 
 -- Two buffers hold the same `count` bytes from `at` on.
 abbrev pub Agree : List ℕ → List ℕ → ℕ → ℕ → Type 0

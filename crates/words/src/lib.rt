@@ -1,9 +1,8 @@
 // Little-endian words of 16 and 32 bits in a slice of bytes, and bytes copied and zeroed.
 ghost use mathlib.Core.Path.{_≡_};
 ghost use Prim.Native.Nat.{_+_, _≤_, _<_};
-ghost use mathlib.Core.List.{[], _∷_};
-ghost use lib.ListN.{length, replicate};
-ghost use Rattle.words.specs.Words.{u16At, u32At, u16Bytes, u32Bytes, setU16, setU32, overwrite};
+ghost use lib.ListN.{length, take, drop, replicate};
+ghost use Rattle.words.specs.Words.{u16At, u32At, u16Bytes, u32Bytes, setU16, setU32, overwrite, fourBytes};
 
 fn widen_u16(byte: u8) -> u16
     ensures { λ r. ⌜ (r ≡ byte) × (r < 256) ⌝ }
@@ -80,14 +79,45 @@ pub fn copy(bytes: &mut [u8], at: usize, source: &[u8])
     }
 }
 
-fn fill_four(stretch: &mut [u8], first: u8, second: u8, third: u8, fourth: u8)
-    requires { ⌜ length (now stretch) ≡ 4 ⌝ }
-    ensures { λ _. ⌜ now (stretch .exit) ≡ first ∷ second ∷ third ∷ fourth ∷ [] ⌝ }
+// Four bytes on their way.
+struct Four {
+    first: u8,
+    second: u8,
+    third: u8,
+    fourth: u8,
+}
+
+fn four_at(source: &[u8], at: usize) -> Four
+    requires { ⌜ at + 4 ≤ length (now source) ⌝ }
+    ensures { λ r. ⌜ fourBytes r ≡ take 4 (drop at (now (source .entry))) ⌝ }
 {
-    stretch[0] = first;
-    stretch[1] = second;
-    stretch[2] = third;
-    stretch[3] = fourth;
+    let first = source[at];
+    let second = source[at + 1];
+    let third = source[at + 2];
+    let fourth = source[at + 3];
+    Four {
+        first,
+        second,
+        third,
+        fourth,
+    }
+}
+
+fn fill_four(stretch: &mut [u8], four: Four)
+    requires { ⌜ length (now stretch) ≡ 4 ⌝ }
+    ensures { λ _. ⌜ now (stretch .exit) ≡ fourBytes four ⌝ }
+{
+    stretch[0] = four.first;
+    stretch[1] = four.second;
+    stretch[2] = four.third;
+    stretch[3] = four.fourth;
+}
+
+fn write_four(bytes: &mut [u8], at: usize, four: Four)
+    requires { ⌜ at + 4 ≤ length (now bytes) ⌝ }
+    ensures { λ _. ⌜ now (bytes .exit) ≡ overwrite (now (bytes .entry)) at (fourBytes four) ⌝ }
+{
+    fill_four(&mut bytes[at..at + 4], four);
 }
 
 // As copy, for a source of eight bytes. All are read before the first is written, so that they move as one word.
@@ -95,22 +125,10 @@ pub fn copy_eight(bytes: &mut [u8], at: usize, source: &[u8])
     requires { ⌜ (length (now source) ≡ 8) × (at + 8 ≤ length (now bytes)) ⌝ }
     ensures { λ _. ⌜ now (bytes .exit) ≡ overwrite (now (bytes .entry)) at (now (source .entry)) ⌝ }
 {
-    let first = source[0];
-    let second = source[1];
-    let third = source[2];
-    let fourth = source[3];
-    let fifth = source[4];
-    let sixth = source[5];
-    let seventh = source[6];
-    let eighth = source[7];
-    fill_four(&mut bytes[at..at + 4], first, second, third, fourth);
-    fill_four(
-        &mut bytes[at + 4..at + 4 + 4],
-        fifth,
-        sixth,
-        seventh,
-        eighth,
-    );
+    let low = four_at(source, 0);
+    let high = four_at(source, 4);
+    write_four(bytes, at, low);
+    write_four(bytes, at + 4, high);
 }
 
 pub fn clear(bytes: &mut [u8])
