@@ -1,5 +1,2 @@
-pub mod Place
-pub mod Access
 pub mod Read
-pub mod SwitchOn
 pub mod Write

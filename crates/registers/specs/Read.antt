@@ -1,22 +1,20 @@
 -- What a read gives (01, "Registers"). A refused read gives value 0.
 use Prim.Native.Nat.{ℕ, _+_, _-_, _*_}
-use mathlib.Core.Bool.{Bool, false, cond}
+use mathlib.Core.Bool.{false, cond}
 use mathlib.Core.List.{List}
 use lib.Dec.{eqb}
 use lib.ListN.{length}
 use Rattle.words.specs.Words.{u32At}
 use Rattle.answers.specs.Answers.{done}
+use Rattle.bits.specs.Bits.{bitOf}
 use Rattle.geometry.specs.declared.Geometry.{Geometry}
 use Rattle.geometry.specs.Geometry.{areaLength}
 use Rattle.device.specs.declared.Device.{Device}
-use Rattle.registers.specs.declared.Place.{Place}
-use Rattle.registers.specs.declared.Place.the-variants.{Magic, Rev, Control, EventSize, Npages, Acceleration, Isr, ConfSize, ClientRev, ReadPtr, EventArea, EntryPage, Nothing}
+use Rattle.access.specs.declared.Place.{Place}
+use Rattle.access.specs.declared.Place.the-variants.{Magic, Rev, Control, EventSize, Npages, Acceleration, Isr, ConfSize, ClientRev, ReadPtr, EventArea, EntryPage, Nothing}
 use Rattle.registers.specs.declared.Value.{Value}
-use Rattle.registers.specs.Place.{placeOf}
-use Rattle.registers.specs.Access.{accessAnswer}
-
-abbrev pub bitOf : Bool → ℕ
-bitOf set = cond set 1 0
+use Rattle.access.specs.Place.{placeOf}
+use Rattle.access.specs.Access.{accessAnswer}
 
 -- REV reads 1 until CLIENT_REV has been written while off. CONTROL has bits 0 (on) and 1 (interrupts). ACCELERATION reads 0.
 -- The words of the event area and of the entry page read as the bytes there.

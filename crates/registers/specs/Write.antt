@@ -10,11 +10,11 @@ use Rattle.geometry.specs.declared.Geometry.{Geometry}
 use Rattle.records.specs.Ring.{withReadPointer}
 use Rattle.device.specs.declared.Device.{Device}
 use Rattle.device.specs.declared.Outcome.{Outcome}
-use Rattle.registers.specs.declared.Place.{Place}
-use Rattle.registers.specs.declared.Place.the-variants.{Magic, Rev, Control, EventSize, Npages, Acceleration, Isr, ConfSize, ClientRev, ReadPtr, EventArea, EntryPage, Nothing}
-use Rattle.registers.specs.Place.{placeOf}
-use Rattle.registers.specs.Access.{accessAnswer}
-use Rattle.registers.specs.SwitchOn.{WriteResult, switchOn}
+use Rattle.access.specs.declared.Place.{Place}
+use Rattle.access.specs.declared.Place.the-variants.{Magic, Rev, Control, EventSize, Npages, Acceleration, Isr, ConfSize, ClientRev, ReadPtr, EventArea, EntryPage, Nothing}
+use Rattle.access.specs.Place.{placeOf}
+use Rattle.access.specs.Access.{accessAnswer}
+use Rattle.switch_on.specs.SwitchOn.{WriteResult, switchOn}
 
 abbrev pub withControl : Bool → Bool → Device → Device
 withControl on interrupts device = record {

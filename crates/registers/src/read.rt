@@ -1,30 +1,22 @@
 // A read of the BAR.
-use crate::Place;
 use crate::Value;
-use crate::access::AREA_OFFSET;
-use crate::access::access_refusal;
-use crate::access::place_of;
+use access::AREA_OFFSET;
+use access::Place;
+use access::access_refusal;
+use access::place_of;
 use answers::DONE;
 use device::Device;
 use geometry::Geometry;
 ghost use mathlib.Core.Path.{_≡_};
 ghost use mathlib.Core.Bool.{false, cond};
-ghost use Prim.Native.Nat.{_+_, _*_, _≤_};
+ghost use Prim.Native.Nat.{_+_, _*_};
 ghost use lib.ListN.{length};
-ghost use Rattle.registers.specs.Place.{placeOf};
-ghost use Rattle.registers.specs.Access.{accessAnswer};
-ghost use Rattle.registers.specs.Read.{bitOf, valueOf, readOf};
+ghost use Rattle.bits.specs.Bits.{bitOf};
+ghost use Rattle.access.specs.Place.{placeOf};
+ghost use Rattle.access.specs.Access.{accessAnswer};
+ghost use Rattle.registers.specs.Read.{valueOf, readOf};
 
 const MAGIC: u32 = 0x584D_4F55;
-
-pub(crate) fn bit_of(set: bool) -> u32
-    ensures { λ r. ⌜ (r ≡ bitOf set) × (r ≤ 1) ⌝ }
-{
-    if set {
-        return 1;
-    }
-    0
-}
 
 fn revision(client_rev_written: bool) -> u32
     ensures { λ r. ⌜ r ≡ cond «client_rev_written» 2 1 ⌝ }
@@ -38,7 +30,7 @@ fn revision(client_rev_written: bool) -> u32
 fn control(on: bool, interrupts: bool) -> u32
     ensures { λ r. ⌜ r ≡ bitOf on + 2 * bitOf interrupts ⌝ }
 {
-    bit_of(on) + 2 * bit_of(interrupts)
+    bits::bit_of(on) + 2 * bits::bit_of(interrupts)
 }
 
 fn value_at(geometry: Geometry, device: Device, area: &[u8], page: &[u8], offset: u64) -> u32
@@ -53,7 +45,7 @@ fn value_at(geometry: Geometry, device: Device, area: &[u8], page: &[u8], offset
         Place::EventSize => geometry.record_size,
         Place::Npages => geometry.pages,
         Place::Acceleration => 0,
-        Place::Isr => bit_of(device.isr),
+        Place::Isr => bits::bit_of(device.isr),
         Place::ConfSize => geometry.entry_size,
         Place::ClientRev => device.client_rev,
         Place::ReadPtr => words::read_u32(area, 0),
@@ -77,8 +69,8 @@ pub fn read_rule(
 ) -> Value
     ensures { λ r. ⌜ r ≡ readOf geometry device (now (area .entry)) (now (page .entry)) offset width ⌝ }
 {
-    let called = device::is_call(geometry, device, area.len(), page.len());
-    let refusal = access_refusal(called, geometry, false, offset, width);
+    let valid = device::is_call(geometry, device, area.len(), page.len());
+    let refusal = access_refusal(valid, geometry, false, offset, width);
     if refusal != DONE {
         return Value {
             answer: refusal,

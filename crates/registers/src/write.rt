@@ -1,8 +1,7 @@
 // A write to the BAR.
-use crate::Place;
-use crate::access::access_refusal;
-use crate::access::place_of;
-use crate::switch::switch_on;
+use access::Place;
+use access::access_refusal;
+use access::place_of;
 use answers::DONE;
 use device::Device;
 use device::Outcome;
@@ -47,7 +46,7 @@ fn write_control(geometry: Geometry, device: Device, area: &mut [u8], value: u32
     if device.on {
         return hold_control(device, true, interrupts);
     }
-    switch_on(geometry, device, area, interrupts)
+    switch_on::start(geometry, device, area, interrupts)
 }
 
 fn write_isr(device: Device) -> Outcome
@@ -109,8 +108,8 @@ pub fn write_rule(
 ) -> Outcome
     ensures { λ r. ⌜ (r ≡ writeOf geometry device (now (area .entry)) (length (now (page .entry))) offset width value .outcome) × (now (area .exit) ≡ writeOf geometry device (now (area .entry)) (length (now (page .entry))) offset width value .area) ⌝ }
 {
-    let called = device::is_call(geometry, device, area.len(), page.len());
-    let refusal = access_refusal(called, geometry, true, offset, width);
+    let valid = device::is_call(geometry, device, area.len(), page.len());
+    let refusal = access_refusal(valid, geometry, true, offset, width);
     if refusal != DONE {
         return Outcome {
             answer: refusal,

@@ -19,14 +19,14 @@ use Rattle.records.proofs.Laws.PutAll.{after-inside, puts-length}
 use Rattle.device.specs.declared.Device.{Device}
 use Rattle.device.specs.State.{clientRevRule, currentRule, isDevice}
 use Rattle.device.proofs.Laws.Call.{Rules, rules}
-use Rattle.registers.specs.declared.Place.{Place}
-use Rattle.registers.specs.declared.Place.the-variants.{Magic, Rev, Control, EventSize, Npages, Acceleration, Isr, ConfSize, ClientRev, ReadPtr, EventArea, EntryPage, Nothing}
-use Rattle.registers.specs.Place.{placeOf}
-use Rattle.registers.specs.Access.{accessAnswer}
-use Rattle.registers.specs.SwitchOn.{WriteResult, startRecords, clearedPointers, switchedOn, switchOn}
+use Rattle.access.specs.declared.Place.{Place}
+use Rattle.access.specs.declared.Place.the-variants.{Magic, Rev, Control, EventSize, Npages, Acceleration, Isr, ConfSize, ClientRev, ReadPtr, EventArea, EntryPage, Nothing}
+use Rattle.access.specs.Place.{placeOf}
+use Rattle.access.specs.Access.{accessAnswer}
+use Rattle.switch_on.specs.SwitchOn.{WriteResult, startRecords, clearedPointers, switchedOn, switchOn}
 use Rattle.registers.specs.Write.{withControl, withIsrCleared, withClientRev, controlOf, clientRevOf, effectOf, writeOf}
-use Rattle.registers.proofs.Laws.Access.{granted}
-use Rattle.registers.proofs.Laws.SwitchOn.{always-starts}
+use Rattle.access.proofs.Laws.Access.{granted}
+use Rattle.switch_on.proofs.Laws.SwitchOn.{always-starts}
 
 -- a state that keeps each rule keeps the rules
 kept : (geometry : Geometry) (device : Device) → Rules geometry device → isDevice geometry device ≡ true

@@ -8,8 +8,8 @@ use borrow.Author.Tests.{ne-eqb}
 use Rattle.geometry.specs.declared.Geometry.{Geometry}
 use Rattle.device.specs.declared.Device.{Device}
 use Rattle.registers.specs.declared.Value.{Value}
-use Rattle.registers.specs.Place.{placeOf}
-use Rattle.registers.specs.Access.{accessAnswer}
+use Rattle.access.specs.Place.{placeOf}
+use Rattle.access.specs.Access.{accessAnswer}
 use Rattle.registers.specs.Read.{valueOf, readOf}
 
 module _ (geometry : Geometry) (device : Device) (area page : List ℕ) (offset width : ℕ) {answer : ℕ} (judged : answer ≡ accessAnswer geometry device (length area) (length page) false offset width) where

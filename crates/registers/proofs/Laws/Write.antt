@@ -11,14 +11,14 @@ use Rattle.bits.specs.Bits.{bit}
 use Rattle.geometry.specs.declared.Geometry.{Geometry}
 use Rattle.device.specs.declared.Device.{Device}
 use Rattle.device.specs.declared.Outcome.{Outcome}
-use Rattle.registers.specs.declared.Place.{Place}
-use Rattle.registers.specs.declared.Place.the-variants.{Magic, Rev, Control, EventSize, Npages, Acceleration, Isr, ConfSize, ClientRev, ReadPtr, EventArea, EntryPage, Nothing}
-use Rattle.registers.specs.Place.{placeOf}
-use Rattle.registers.specs.Access.{accessAnswer}
-use Rattle.registers.specs.SwitchOn.{switchOn}
+use Rattle.access.specs.declared.Place.{Place}
+use Rattle.access.specs.declared.Place.the-variants.{Magic, Rev, Control, EventSize, Npages, Acceleration, Isr, ConfSize, ClientRev, ReadPtr, EventArea, EntryPage, Nothing}
+use Rattle.access.specs.Place.{placeOf}
+use Rattle.access.specs.Access.{accessAnswer}
+use Rattle.switch_on.specs.SwitchOn.{switchOn}
 use Rattle.registers.specs.Write.{withControl, doneWith, leaves, controlOf, effectOf, writeOf}
-use Rattle.registers.proofs.Place.{the-type}
-use Rattle.registers.proofs.Laws.SwitchOn.{Leaves}
+use Rattle.access.proofs.Place.{the-type}
+use Rattle.switch_on.proofs.Laws.SwitchOn.{Leaves}
 
 -- ---- a write to CONTROL
 

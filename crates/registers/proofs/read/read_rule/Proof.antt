@@ -1,6 +1,6 @@
 use mathlib.Core.Path.{sym, _∙_}
 use Rattle.registers.proofs.Laws.Read.{read-refused, read-granted}
-use Rattle.registers.proofs.Laws.Access.{judged, granted-word}
+use Rattle.access.proofs.Laws.Access.{judged, granted-word}
 use borrow.Author.Needs.{needs}
 use Rattle.registers.proofs.read.read_rule.Statement.{statement}
 use Rattle.registers.proofs.read.read_rule.Tie as tie

@@ -1,6 +1,6 @@
-use Rattle.registers.proofs.Laws.Place.{area-begins, page-begins}
+use Rattle.access.proofs.Laws.Place.{area-begins, page-begins}
 use lib.ListN.{length}
-use Rattle.registers.proofs.Laws.Access.{Granted, granted, pointer-inside, area-word, page-word}
+use Rattle.access.proofs.Laws.Access.{Granted, granted, pointer-inside, area-word, page-word}
 use mathlib.Core.Path.{sym, _∙_}
 use borrow.Author.Needs.{needs}
 use Rattle.registers.proofs.read.value_at.Statement.{statement}

@@ -28,14 +28,14 @@ hold-control-requires-3 c κs = search needs
 returns-3 : tie.Need-returns-3
 returns-3 c = control-stays-on (c .before .before .before .before .before .before .before .before .args .geometry) (c .before .before .before .before .before .before .before .before .args .device) (c .before .before .before .before .before .before .before .before .args .area .now) (c .before .before .before .before .before .before .before .before .args .value) (c .before .before .before .before .before .is-set2 .ensures) (c .before .before .before .before .before .before .is-set .ensures) (not-false _ (c .before .before .before .before .if1 .left)) (c .before .before .if2 .left) (c .before .if3 .taken) (c .hold-control3 .ensures)
 
-switch-on-requires : tie.Need-switch-on-requires
-switch-on-requires c κs = search needs
+start-requires : tie.Need-start-requires
+start-requires c κs = search needs
 
 same-length : tie.Need-same-length
 same-length c = search needs
 
 returns-4 : tie.Need-returns-4
-returns-4 c = control-switches (c .before .before .before .before .before .before .before .before .before .before .before .args .geometry) (c .before .before .before .before .before .before .before .before .before .before .before .args .device) (c .before .before .before .before .before .before .before .before .before .before .before .args .area .now) (c .before .before .before .before .before .before .before .before .before .before .before .args .value) (c .before .before .before .before .before .before .before .before .is-set2 .ensures) (c .before .before .before .before .before .before .before .before .before .is-set .ensures) (not-false _ (c .before .before .before .before .before .before .before .if1 .left)) (c .before .before .before .before .before .if2 .left) (c .before .before .before .before .if3 .left) (c .before .before .switch-on .ensures)
+returns-4 c = control-switches (c .before .before .before .before .before .before .before .before .before .before .before .args .geometry) (c .before .before .before .before .before .before .before .before .before .before .before .args .device) (c .before .before .before .before .before .before .before .before .before .before .before .args .area .now) (c .before .before .before .before .before .before .before .before .before .before .before .args .value) (c .before .before .before .before .before .before .before .before .is-set2 .ensures) (c .before .before .before .before .before .before .before .before .before .is-set .ensures) (not-false _ (c .before .before .before .before .before .before .before .if1 .left)) (c .before .before .before .before .before .if2 .left) (c .before .before .before .before .if3 .left) (c .before .before .start .ensures)
 
 pub write-control-spec : {M : Type 1} → statement M
 write-control-spec =
@@ -49,6 +49,6 @@ write-control-spec =
     returns-2
     hold-control-requires-3
     returns-3
-    switch-on-requires
+    start-requires
     same-length
     returns-4)

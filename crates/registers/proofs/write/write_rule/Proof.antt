@@ -2,7 +2,7 @@ use mathlib.Core.Bool.{true}
 use mathlib.Core.Path.{sym, _∙_}
 use lib.ListN.{length}
 use Rattle.registers.proofs.Laws.Write.{write-refused, write-granted}
-use Rattle.registers.proofs.Laws.Access.{judged, granted}
+use Rattle.access.proofs.Laws.Access.{judged, granted}
 use borrow.Author.Needs.{needs}
 use Rattle.registers.proofs.write.write_rule.Statement.{statement}
 use Rattle.registers.proofs.write.write_rule.Tie as tie

@@ -1,0 +1,109 @@
+// The device switched on: the ring starts anew, with a record for each taken slot.
+use answers::DONE;
+use answers::NO_ROOM;
+use device::Device;
+use device::Outcome;
+use geometry::Geometry;
+use geometry::Ring;
+use records::codes::ALL_SLOTS;
+use records::codes::DEV_CONF;
+use records::codes::DEV_RESET;
+use records::codes::NO_SLOT;
+use records::codes::dev_record;
+ghost use mathlib.Core.Path.{_≡_};
+ghost use mathlib.Core.Bool.{true, cond};
+ghost use mathlib.Core.List.{[], _∷_, map};
+ghost use Prim.Native.Nat.{_≤_, _<_};
+ghost use lib.ListN.{length};
+ghost use Rattle.bits.specs.Bits.{bit};
+ghost use Rattle.geometry.specs.Geometry.{allowed, ringOf};
+ghost use Rattle.records.specs.Codes.{DEV-CONF, DEV-RESET, allSlots, devRecord};
+ghost use Rattle.records.specs.Ring.{Holds};
+ghost use Rattle.records.specs.Put.{Put};
+ghost use Rattle.switch_on.specs.SwitchOn.{takenFrom, clearedPointers, switchedOn, switchOn};
+
+fn taken_count(taken: u64, slots: u32) -> u32
+    ensures { λ r. ⌜ r ≡ length (takenFrom taken 0 slots) ⌝ }
+{
+    let mut count: u32 = 0;
+    let mut slot: u32 = 0;
+    while slot < slots {
+        count += bits::bit_of(bits::is_set(taken, slot));
+        slot += 1;
+    }
+    count
+}
+
+fn clear_pointers(area: &mut [u8])
+    requires { ⌜ 8 ≤ length (now area) ⌝ }
+    ensures { λ _. ⌜ now (area .exit) ≡ clearedPointers (now (area .entry)) ⌝ }
+{
+    records::set_read_pointer(area, 0);
+    words::write_u32(area, 4, 0);
+}
+
+fn put_slot(ring: Ring, area: &mut [u8], index: u32, taken: u64, slot: u32) -> u32
+    requires { ⌜ (Holds (length (now area)) ring) × (index < ring .length) ⌝ }
+    ensures { λ r. ⌜ Put ring index (cond (bit taken slot) (devRecord DEV-CONF slot ∷ []) []) (now (area .entry)) (now (area .exit)) r ⌝ }
+{
+    if !bits::is_set(taken, slot) {
+        return index;
+    }
+    records::put_record(ring, area, index, dev_record(DEV_CONF, slot))
+}
+
+fn put_slots(ring: Ring, area: &mut [u8], index: u32, taken: u64, slots: u32) -> u32
+    requires { ⌜ (Holds (length (now area)) ring) × (index < ring .length) ⌝ }
+    ensures { λ r. ⌜ Put ring index (map (devRecord DEV-CONF) (takenFrom taken 0 slots)) (now (area .entry)) (now (area .exit)) r ⌝ }
+{
+    let mut at = index;
+    let mut slot: u32 = 0;
+    while slot < slots {
+        at = put_slot(ring, area, at, taken, slot);
+        slot += 1;
+    }
+    at
+}
+
+fn put_start(ring: Ring, area: &mut [u8], taken: u64, slots: u32) -> u32
+    requires { ⌜ (Holds (length (now area)) ring) × (0 < ring .length) ⌝ }
+    ensures { λ r. ⌜ Put ring 0 (devRecord DEV-RESET allSlots ∷ map (devRecord DEV-CONF) (takenFrom taken 0 slots)) (now (area .entry)) (now (area .exit)) r ⌝ }
+{
+    let first = records::put_record(ring, area, 0, dev_record(DEV_RESET, ALL_SLOTS));
+    put_slots(ring, area, first, taken, slots)
+}
+
+fn switched(device: Device, interrupts: bool, index: u32) -> Device
+    ensures { λ r. ⌜ r ≡ switchedOn interrupts index device ⌝ }
+{
+    let mut after = device;
+    after.on = true;
+    after.interrupts = interrupts;
+    after.lost = false;
+    after.write_index = index;
+    after.current_slot = NO_SLOT;
+    after
+}
+
+pub fn start(geometry: Geometry, device: Device, area: &mut [u8], interrupts: bool) -> Outcome
+    requires { ⌜ (allowed geometry ≡ true) × (Holds (length (now area)) (ringOf geometry)) ⌝ }
+    ensures { λ r. ⌜ r ≡ switchOn geometry device (now (area .entry)) interrupts .outcome ⌝ }
+    ensures { λ r. ⌜ now (area .exit) ≡ switchOn geometry device (now (area .entry)) interrupts .area ⌝ }
+{
+    let ring = geometry::ring_of(geometry);
+    let slots = geometry::slot_count(geometry);
+    let count = taken_count(device.taken, slots) + 1;
+    if count > ring.length - 1 {
+        return Outcome {
+            answer: NO_ROOM,
+            device: device,
+        };
+    }
+    clear_pointers(area);
+    let index = put_start(ring, area, device.taken, slots);
+    let after = switched(device, interrupts, index);
+    Outcome {
+        answer: DONE,
+        device: after,
+    }
+}
