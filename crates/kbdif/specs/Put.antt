@@ -1,23 +1,16 @@
 -- Put, the back end's call (01, "kbdif ring and nodes"). It trusts its own in_prod alone, and of the page reads in_cons.
 use Prim.Native.Nat.{ℕ}
-use mathlib.Core.Bool.{Bool, false, not, cond}
+use mathlib.Core.Bool.{Bool, not, cond}
 use mathlib.Core.List.{List, [], _∷_}
 use lib.Dec.{ltb, eqb}
 use lib.ListN.{length}
 use Rattle.answers.specs.Answers.{done, invalid, malformed, badIndex, noRoom}
 use Rattle.answers.specs.Refusals.{firstRefusal}
 use Rattle.words.specs.Words.{overwrite}
-use Rattle.kbdif_events.specs.Event.{eventLength, known}
-use Rattle.kbdif_decode.specs.Decode.{decoded}
-use Rattle.kbdif_decode.specs.declared.Decoded.{Decoded}
-use Rattle.kbdif_decode.specs.declared.Decoded.the-variants.{Event, Refused}
+use Rattle.kbdif_events.specs.Event.{eventLength}
+use Rattle.kbdif_decode.specs.Decode.{decoded, mayBePut}
 use Rattle.kbdif.specs.declared.Stored.{Stored}
 use Rattle.kbdif.specs.Page.{pageLength, ringLength, inConsOf, withInProd, nextIndex, distance, eventPlace, isContactLimit}
-
--- A known and well-formed event may be put.
-abbrev pub mayBePut : Decoded → Bool
-mayBePut (Event event) = known event
-mayBePut (Refused number) = false
 
 -- The order of refusals: 1, 9, 10, and 7 at exactly 51.
 abbrev pub putRefusals : List ℕ → ℕ → ℕ → List ℕ → List (Bool × ℕ)

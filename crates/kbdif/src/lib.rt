@@ -12,15 +12,15 @@ ghost use Prim.Native.Nat.{_+_, _≤_};
 ghost use lib.ListN.{length};
 ghost use Rattle.answers.specs.Refusals.{firstRefusal};
 ghost use Rattle.kbdif_events.specs.Event.{eventLength};
-ghost use Rattle.kbdif_decode.specs.Decode.{decoded, numberOf};
+ghost use Rattle.kbdif_decode.specs.Decode.{numberOf};
 ghost use Rattle.kbdif.specs.Page.{pageLength, nextIndex, distance, eventPlace, isContactLimit};
-ghost use Rattle.kbdif.specs.Put.{mayBePut, putRefusals, putOf};
-ghost use Rattle.kbdif.specs.Take.{takeNumber, foundBy, consumed, takeOf};
+ghost use Rattle.kbdif.specs.Put.{putRefusals, putOf};
+ghost use Rattle.kbdif.specs.Take.{waitingRefusals, takeNumber, takeOf};
 
 pub const PAGE_LENGTH: usize = 4096;
 
 // Bytes of the page: the two indices, and the first event.
-const IN_CONS: usize = 0;
+pub const IN_CONS: usize = 0;
 
 const IN_PROD: usize = 4;
 
@@ -41,7 +41,7 @@ pub struct Taken {
     pub in_cons: u32,
 }
 
-fn next_index(index: u32) -> u32
+pub fn next_index(index: u32) -> u32
     ensures { λ r. ⌜ r ≡ nextIndex index ⌝ }
 {
     std::num::wrapping_add_u32(index, 1)
@@ -53,7 +53,7 @@ fn distance(in_prod: u32, in_cons: u32) -> u32
     std::num::wrapping_sub_u32(in_prod, in_cons)
 }
 
-fn event_place(index: u32) -> usize
+pub fn event_place(index: u32) -> usize
     ensures { λ r. ⌜ (r ≡ eventPlace index) × (r + eventLength ≤ pageLength) ⌝ }
 {
     EVENTS + (index % RING_LENGTH) as usize * EVENT_LENGTH
@@ -68,16 +68,6 @@ pub fn is_contact_limit(limit: u32) -> bool
     limit <= 32
 }
 
-fn may_be_put(event: &[u8], contact_limit: u32) -> bool
-    requires { ⌜ length (now event) ≡ eventLength ⌝ }
-    ensures { λ r. ⌜ r ≡ mayBePut (decoded (now (event .entry)) «contact_limit») ⌝ }
-{
-    match kbdif_decode::decode(event, contact_limit) {
-        Decoded::Event(value) => kbdif_events::is_known(value),
-        Decoded::Refused(_) => false,
-    }
-}
-
 fn put_refusal(page: &[u8], in_prod: u32, contact_limit: u32, event: &[u8]) -> u8
     ensures { λ r. ⌜ r ≡ firstRefusal (putRefusals (now (page .entry)) «in_prod» «contact_limit» (now (event .entry))) ⌝ }
 {
@@ -90,7 +80,7 @@ fn put_refusal(page: &[u8], in_prod: u32, contact_limit: u32, event: &[u8]) -> u
     if !is_contact_limit(contact_limit) {
         return INVALID;
     }
-    if !may_be_put(event, contact_limit) {
+    if !kbdif_decode::may_be_put(event, contact_limit) {
         return MALFORMED;
     }
     // The front end may move its index at any time, so a call reads it once.
@@ -134,44 +124,40 @@ pub fn put(page: &mut [u8], in_prod: u32, contact_limit: u32, event: &[u8]) -> S
     }
 }
 
-fn find(page: &[u8], in_cons: u32, contact_limit: u32) -> Decoded
-    ensures { λ r. ⌜ r ≡ foundBy (now (page .entry)) «in_cons» «contact_limit» ⌝ }
+// What a take answers before it looks at its event.
+pub fn take_refusal(page: &[u8], in_cons: u32, contact_limit: u32) -> u8
+    ensures { λ r. ⌜ r ≡ firstRefusal (waitingRefusals (now (page .entry)) «in_cons» «contact_limit») ⌝ }
 {
     if page.len() != PAGE_LENGTH {
-        return Decoded::Refused(INVALID);
+        return INVALID;
     }
     if !is_contact_limit(contact_limit) {
-        return Decoded::Refused(INVALID);
+        return INVALID;
     }
     // The back end may move its index at any time, so a call reads it once.
     let unread = distance(words::read_u32(page, IN_PROD), in_cons);
     if unread > RING_LENGTH {
-        return Decoded::Refused(BAD_INDEX);
+        return BAD_INDEX;
     }
     if unread == 0 {
-        return Decoded::Refused(NOTHING_TO_READ);
+        return NOTHING_TO_READ;
     }
-    let at = event_place(in_cons);
-    kbdif_decode::decode(&page[at..at + EVENT_LENGTH], contact_limit)
-}
-
-fn is_consumed(found: Decoded) -> bool
-    ensures { λ r. ⌜ r ≡ consumed found ⌝ }
-{
-    match found {
-        Decoded::Event(_) => true,
-        Decoded::Refused(number) => number == MALFORMED,
-    }
+    DONE
 }
 
 // The front end's call. Its own index is the private one, never that of the page.
 pub fn take(page: &mut [u8], in_cons: u32, contact_limit: u32) -> Taken
     ensures { λ r. ⌜ (numberOf (r .found) ≡ takeNumber (now (page .entry)) «in_cons» «contact_limit») × (r ≡ takeOf (now (page .entry)) «in_cons» «contact_limit» .result) × (now (page .exit) ≡ takeOf (now (page .entry)) «in_cons» «contact_limit» .page) ⌝ }
 {
-    let found = find(&page[..], in_cons, contact_limit);
-    if !is_consumed(found) {
-        return Taken { found, in_cons };
+    let answer = take_refusal(&page[..], in_cons, contact_limit);
+    if answer != DONE {
+        return Taken {
+            found: Decoded::Refused(answer),
+            in_cons,
+        };
     }
+    let at = event_place(in_cons);
+    let found = kbdif_decode::decode(&page[at..at + EVENT_LENGTH], contact_limit);
     let next = next_index(in_cons);
     words::write_u32(page, IN_CONS, next);
     Taken {

@@ -1,6 +1,6 @@
 -- The event that 40 bytes hold, and when they are badly formed (01, "kbdif ring and nodes").
-use Prim.Native.Nat.{ℕ, _+_, _-_, _<_}
-use mathlib.Core.Bool.{Bool, true, not, _&&_, cond}
+use Prim.Native.Nat.{ℕ, _+_, _-_, _*_}
+use mathlib.Core.Bool.{Bool, true, false, not, _&&_, cond}
 use mathlib.Core.List.{List, [], _∷_}
 use lib.Dec.{leb, ltb, eqb}
 use lib.IntN.{ℤ}
@@ -12,14 +12,13 @@ use Rattle.words.specs.Words.{u16At, u32At}
 use Rattle.signed.specs.Signed.{fromBits}
 use Rattle.kbdif_decode.specs.declared.Decoded.{Decoded}
 use Rattle.kbdif_decode.specs.declared.Decoded.the-variants.{Event, Refused}
-use Rattle.kbdif_decode.specs.declared.Extent.{Extent}
 use Rattle.kbdif_events.specs.declared.RingEvent.{RingEvent}
 use Rattle.kbdif_events.specs.declared.RingEvent.the-variants.{Motion, Key, Pos, TouchDown, TouchUp, TouchMotion, TouchSyn, TouchShape, TouchOrient, Unknown}
-use Rattle.kbdif_events.specs.Event.{eventLength, layoutOf, contactOf}
+use Rattle.kbdif_events.specs.Event.{eventLength, layoutOf, contactOf, known}
 
--- Every entry is a byte: any list that code can hold.
-abbrev pub Bytes : List ℕ → Type 0
-Bytes bytes = (i : ℕ) → getD bytes i 0 < 256
+-- Eight bytes as one number.
+abbrev pub u64At : List ℕ → ℕ → ℕ
+u64At bytes at = u32At bytes at + u32At bytes (at + 4) * 4294967296
 
 -- The signed number that begins at a byte.
 abbrev pub i32At : List ℕ → ℕ → ℤ
@@ -58,6 +57,11 @@ eventAt bytes =
     Unknown
 
 -- Where an event's head ends, and where its fields start and end. All other bytes are reserved.
+pub record Extent : Type 0 where
+  pub head : ℕ
+  pub start : ℕ
+  pub end : ℕ
+
 abbrev pub extent : ℕ → ℕ → ℕ → Extent
 extent head start end = record { head = head; start = start; end = end }
 
@@ -73,10 +77,13 @@ allZero (byte ∷ rest) = eqb byte 0 && allZero rest
 abbrev pub between : List ℕ → ℕ → ℕ → List ℕ
 between bytes from until = take (until - from) (drop from bytes)
 
--- The reserved bytes: between the head and the fields, and after the fields.
+-- The bytes between the head and the fields, and after the fields.
+abbrev pub zeroOutside : List ℕ → ℕ → ℕ → ℕ → Bool
+zeroOutside bytes head start end = allZero (between bytes head start) && allZero (between bytes end eventLength)
+
+-- The reserved bytes of an event.
 unfoldable pub reservedIsZero : List ℕ → RingEvent → Bool
-reservedIsZero bytes event =
-    allZero (between bytes (extentOf event .head) (extentOf event .start)) && allZero (between bytes (extentOf event .end) eventLength)
+reservedIsZero bytes event = zeroOutside bytes (extentOf event .head) (extentOf event .start) (extentOf event .end)
 
 -- Pressed above 1.
 abbrev pub pressedAboveOne : List ℕ → Bool
@@ -102,3 +109,8 @@ answered number event = cond (eqb number done) (Event event) (Refused number)
 -- What decode answers: the event, unknown or not, or 9.
 abbrev pub decoded : List ℕ → ℕ → Decoded
 decoded bytes contactLimit = answered (firstRefusal (eventRefusals bytes contactLimit)) (eventAt bytes)
+
+-- A known and well-formed event may be put.
+abbrev pub mayBePut : Decoded → Bool
+mayBePut (Event event) = known event
+mayBePut (Refused number) = false

@@ -1,7 +1,6 @@
 // The event that 40 bytes of the Xen keyboard ring hold, under a contact limit.
 use answers::MALFORMED;
 use kbdif_events::DOWN;
-use kbdif_events::EVENT_LENGTH;
 use kbdif_events::KEY;
 use kbdif_events::MOTION;
 use kbdif_events::MOVE;
@@ -14,26 +13,18 @@ use kbdif_events::SYN;
 use kbdif_events::UP;
 ghost use mathlib.Core.Path.{_≡_};
 ghost use Prim.Native.Nat.{_+_, _≤_};
-ghost use lib.ListN.{length, drop};
+ghost use mathlib.Core.Bool.{_&&_};
+ghost use lib.ListN.{length, getD};
 ghost use Rattle.answers.specs.Refusals.{firstRefusal};
 ghost use Rattle.kbdif_events.specs.Event.{eventLength, contactOf};
-ghost use Rattle.kbdif_decode.specs.Decode.{i32At, touchAt, eventAt, extent, extentOf, allZero, reservedIsZero, pressedAboveOne, eventRefusals, numberOf, decoded};
+ghost use Rattle.kbdif_decode.specs.Decode.{i32At, u64At, touchAt, eventAt, allZero, between, zeroOutside, reservedIsZero, pressedAboveOne, eventRefusals, numberOf, decoded, mayBePut};
 
 pub enum Decoded {
     Event(RingEvent),
     Refused(u8),
 }
 
-const FIELDS_END: usize = 16;
-
-// Where an event's head ends, and where its fields start and end.
-struct Extent {
-    head: usize,
-    start: usize,
-    end: usize,
-}
-
-fn i32_at(bytes: &[u8], at: usize) -> i32
+pub fn i32_at(bytes: &[u8], at: usize) -> i32
     requires { ⌜ at + 4 ≤ length (now bytes) ⌝ }
     ensures { λ r. ⌜ r ≡ i32At (now (bytes .entry)) at ⌝ }
 {
@@ -97,29 +88,6 @@ fn event_at(bytes: &[u8]) -> RingEvent
     }
 }
 
-fn extent_from(head: usize, start: usize, end: usize) -> Extent
-    ensures { λ r. ⌜ r ≡ extent head start end ⌝ }
-{
-    Extent { head, start, end }
-}
-
-fn extent_of(event: RingEvent) -> Extent
-    ensures { λ r. ⌜ r ≡ extentOf event ⌝ }
-{
-    match event {
-        RingEvent::Motion { .. } => extent_from(1, 4, 16),
-        RingEvent::Key { .. } => extent_from(2, 4, 8),
-        RingEvent::Pos { .. } => extent_from(1, 4, 16),
-        RingEvent::TouchDown { .. } => extent_from(3, 8, 16),
-        RingEvent::TouchUp { .. } => extent_from(3, 8, 8),
-        RingEvent::TouchMotion { .. } => extent_from(3, 8, 16),
-        RingEvent::TouchSyn { .. } => extent_from(3, 8, 8),
-        RingEvent::TouchShape { .. } => extent_from(3, 8, 16),
-        RingEvent::TouchOrient { .. } => extent_from(3, 8, 10),
-        RingEvent::Unknown => extent_from(EVENT_LENGTH, EVENT_LENGTH, EVENT_LENGTH),
-    }
-}
-
 fn contact_of(event: RingEvent) -> u8
     ensures { λ r. ⌜ r ≡ contactOf event ⌝ }
 {
@@ -137,55 +105,104 @@ fn contact_of(event: RingEvent) -> u8
     }
 }
 
-// The bytes from one on, where all before it are zero.
-fn rest_is_zero(stretch: &[u8], from: usize) -> bool
-    requires { ⌜ (from ≤ length (now stretch)) × (allZero (drop from (now stretch)) ≡ allZero (now stretch)) ⌝ }
-    ensures { λ r. ⌜ r ≡ allZero (now (stretch .entry)) ⌝ }
+fn eight_at(bytes: &[u8], at: usize) -> u64
+    requires { ⌜ at + 8 ≤ length (now bytes) ⌝ }
+    ensures { λ r. ⌜ r ≡ u64At (now (bytes .entry)) at ⌝ }
 {
-    let mut i = from;
-    while i < stretch.len() {
-        if stretch[i] != 0 {
-            return false;
-        }
-        i += 1;
-    }
-    true
+    words::read_u32(bytes, at) as u64 + words::read_u32(bytes, at + 4) as u64 * 4294967296
 }
 
-// Four bytes at a time, as long as there are four.
-fn is_zero(stretch: &[u8]) -> bool
-    ensures { λ r. ⌜ r ≡ allZero (now (stretch .entry)) ⌝ }
+// No event has a field past byte 16.
+fn tail_is_zero(bytes: &[u8]) -> bool
+    requires { ⌜ length (now bytes) ≡ eventLength ⌝ }
+    ensures { λ r. ⌜ r ≡ allZero (between (now (bytes .entry)) 16 eventLength) ⌝ }
 {
-    let mut i: usize = 0;
-    while stretch.len() - i >= 4 {
-        if words::read_u32(stretch, i) != 0 {
-            return false;
-        }
-        i += 4;
+    if eight_at(bytes, 16) != 0 {
+        return false;
     }
-    rest_is_zero(stretch, i)
+    if eight_at(bytes, 24) != 0 {
+        return false;
+    }
+    eight_at(bytes, 32) == 0
 }
 
-// No event has a field past byte 16, so the bytes from there on are tested apart, by a loop that is unrolled. What is unknown has no
-// reserved bytes.
+// The reserved bytes of a motion or a position. Its first word is its type alone.
+pub fn pointer_is_clear(bytes: &[u8]) -> bool
+    requires { ⌜ length (now bytes) ≡ eventLength ⌝ }
+    ensures { λ r. ⌜ r ≡ zeroOutside (now (bytes .entry)) 1 4 16 ⌝ }
+{
+    if words::read_u32(bytes, 0) != bytes[0] as u32 {
+        return false;
+    }
+    tail_is_zero(bytes)
+}
+
+pub fn key_is_clear(bytes: &[u8]) -> bool
+    requires { ⌜ length (now bytes) ≡ eventLength ⌝ }
+    ensures { λ r. ⌜ r ≡ zeroOutside (now (bytes .entry)) 2 4 8 ⌝ }
+{
+    if words::read_u16(bytes, 2) != 0 {
+        return false;
+    }
+    if eight_at(bytes, 8) != 0 {
+        return false;
+    }
+    tail_is_zero(bytes)
+}
+
+// A touch with two fields. Its first eight bytes are its type, subtype and contact alone.
+pub fn touch_is_clear(bytes: &[u8]) -> bool
+    requires { ⌜ length (now bytes) ≡ eventLength ⌝ }
+    ensures { λ r. ⌜ r ≡ zeroOutside (now (bytes .entry)) 3 8 16 ⌝ }
+{
+    if eight_at(bytes, 0) / 65536 != bytes[2] as u64 {
+        return false;
+    }
+    tail_is_zero(bytes)
+}
+
+// A touch without fields.
+pub fn bare_touch_is_clear(bytes: &[u8]) -> bool
+    requires { ⌜ length (now bytes) ≡ eventLength ⌝ }
+    ensures { λ r. ⌜ r ≡ zeroOutside (now (bytes .entry)) 3 8 8 ⌝ }
+{
+    if eight_at(bytes, 8) != 0 {
+        return false;
+    }
+    touch_is_clear(bytes)
+}
+
+// A touch with an orientation.
+pub fn orientation_is_clear(bytes: &[u8]) -> bool
+    requires { ⌜ length (now bytes) ≡ eventLength ⌝ }
+    ensures { λ r. ⌜ r ≡ zeroOutside (now (bytes .entry)) 3 8 10 ⌝ }
+{
+    if words::read_u16(bytes, 10) != 0 {
+        return false;
+    }
+    if words::read_u32(bytes, 12) != 0 {
+        return false;
+    }
+    touch_is_clear(bytes)
+}
+
+// What is unknown has no reserved bytes.
 fn reserved_is_zero(bytes: &[u8], event: RingEvent) -> bool
     requires { ⌜ length (now bytes) ≡ eventLength ⌝ }
     ensures { λ r. ⌜ r ≡ reservedIsZero (now (bytes .entry)) event ⌝ }
 {
-    let extent = extent_of(event);
-    let head = extent.head;
-    let start = extent.start;
-    let end = extent.end;
-    if end > FIELDS_END {
-        return true;
+    match event {
+        RingEvent::Motion { .. } => pointer_is_clear(bytes),
+        RingEvent::Key { .. } => key_is_clear(bytes),
+        RingEvent::Pos { .. } => pointer_is_clear(bytes),
+        RingEvent::TouchDown { .. } => touch_is_clear(bytes),
+        RingEvent::TouchUp { .. } => bare_touch_is_clear(bytes),
+        RingEvent::TouchMotion { .. } => touch_is_clear(bytes),
+        RingEvent::TouchSyn { .. } => bare_touch_is_clear(bytes),
+        RingEvent::TouchShape { .. } => touch_is_clear(bytes),
+        RingEvent::TouchOrient { .. } => orientation_is_clear(bytes),
+        RingEvent::Unknown => true,
     }
-    if !is_zero(&bytes[head..start]) {
-        return false;
-    }
-    if !is_zero(&bytes[end..FIELDS_END]) {
-        return false;
-    }
-    is_zero(&bytes[FIELDS_END..EVENT_LENGTH])
 }
 
 fn pressed_above_one(bytes: &[u8]) -> bool
@@ -214,4 +231,47 @@ pub fn decode(bytes: &[u8], contact_limit: u32) -> Decoded
         return Decoded::Refused(MALFORMED);
     }
     Decoded::Event(event)
+}
+
+fn both(first: bool, second: bool) -> bool
+    ensures { λ r. ⌜ r ≡ (first && second) ⌝ }
+{
+    if first {
+        return second;
+    }
+    false
+}
+
+fn touch_may_be_put(bytes: &[u8], contact_limit: u32) -> bool
+    requires { ⌜ (length (now bytes) ≡ eventLength) × (getD (now bytes) 0 0 ≡ 5) × (1 ≤ «contact_limit») ⌝ }
+    ensures { λ r. ⌜ r ≡ mayBePut (decoded (now (bytes .entry)) «contact_limit») ⌝ }
+{
+    let subtype = bytes[1];
+    let allowed = (bytes[2] as u32) < contact_limit;
+    match subtype {
+        DOWN => both(touch_is_clear(bytes), allowed),
+        UP => both(bare_touch_is_clear(bytes), allowed),
+        MOVE => both(touch_is_clear(bytes), allowed),
+        SYN => both(bare_touch_is_clear(bytes), allowed),
+        SHAPE => both(touch_is_clear(bytes), allowed),
+        ORIENT => both(orientation_is_clear(bytes), allowed),
+        _ => false,
+    }
+}
+
+// Whether 40 bytes are a known and well-formed event: decode without the event itself.
+pub fn may_be_put(bytes: &[u8], contact_limit: u32) -> bool
+    requires { ⌜ (length (now bytes) ≡ eventLength) × (1 ≤ «contact_limit») ⌝ }
+    ensures { λ r. ⌜ r ≡ mayBePut (decoded (now (bytes .entry)) «contact_limit») ⌝ }
+{
+    let kind = bytes[0];
+    if kind == MTOUCH {
+        return touch_may_be_put(bytes, contact_limit);
+    }
+    match kind {
+        MOTION => pointer_is_clear(bytes),
+        KEY => both(key_is_clear(bytes), bytes[1] <= 1),
+        POS => pointer_is_clear(bytes),
+        _ => false,
+    }
 }

@@ -113,6 +113,9 @@ eventOf numbers =
     Unknown
 
 -- What a decode or a take answers, with its number. A refusal has an event of zeros.
+abbrev pub found : ℕ → RingNumbers → FoundNumbers
+found number event = record { answer = number; event = event }
+
 abbrev pub foundOf : Decoded → FoundNumbers
-foundOf (Event event) = record { answer = done; event = numbersOf event }
-foundOf (Refused number) = record { answer = number; event = noNumbers }
+foundOf (Event event) = found done (numbersOf event)
+foundOf (Refused number) = found number noNumbers

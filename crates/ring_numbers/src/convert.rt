@@ -14,7 +14,7 @@ use kbdif_events::UP;
 ghost use mathlib.Core.Path.{_≡_};
 ghost use Rattle.ring_numbers.specs.Numbers.{noNumbers, placeNumbers, keyNumbers, shapeNumbers, orientNumbers, numbersOf, touchOf, eventOf};
 
-fn place_numbers(kind: u8, subtype: u8, contact: u8, x: i32, y: i32, z: i32) -> RingNumbers
+pub fn place_numbers(kind: u8, subtype: u8, contact: u8, x: i32, y: i32, z: i32) -> RingNumbers
     ensures { λ r. ⌜ r ≡ placeNumbers kind subtype contact x y z ⌝ }
 {
     RingNumbers {
@@ -38,7 +38,7 @@ pub fn no_numbers() -> RingNumbers
     place_numbers(0, 0, 0, 0, 0, 0)
 }
 
-fn key_numbers(pressed: bool, keycode: u32) -> RingNumbers
+pub fn key_numbers(pressed: bool, keycode: u32) -> RingNumbers
     ensures { λ r. ⌜ r ≡ keyNumbers pressed keycode ⌝ }
 {
     RingNumbers {
@@ -56,7 +56,7 @@ fn key_numbers(pressed: bool, keycode: u32) -> RingNumbers
     }
 }
 
-fn shape_numbers(contact: u8, major: u32, minor: u32) -> RingNumbers
+pub fn shape_numbers(contact: u8, major: u32, minor: u32) -> RingNumbers
     ensures { λ r. ⌜ r ≡ shapeNumbers contact major minor ⌝ }
 {
     RingNumbers {
@@ -74,7 +74,7 @@ fn shape_numbers(contact: u8, major: u32, minor: u32) -> RingNumbers
     }
 }
 
-fn orient_numbers(contact: u8, orientation: i16) -> RingNumbers
+pub fn orient_numbers(contact: u8, orientation: i16) -> RingNumbers
     ensures { λ r. ⌜ r ≡ orientNumbers contact orientation ⌝ }
 {
     RingNumbers {

@@ -1,15 +1,10 @@
-// The keyboard ring for callers whose language has no enum: an event is a kind and numbers.
-mod convert;
+// Events of the keyboard ring for callers whose language has no enum: a kind and numbers.
+pub mod convert;
 
 use answers::DONE;
-use answers::INVALID;
-use answers::MALFORMED;
 use kbdif_decode::Decoded;
-use kbdif_events::EVENT_LENGTH;
 ghost use mathlib.Core.Path.{_≡_};
-ghost use Rattle.ring_numbers.specs.Numbers.{foundOf};
-ghost use Rattle.ring_numbers.specs.Calls.{encodeAnswer, encodedBytes, decodedOf, takenOf};
-ghost use Rattle.kbdif.specs.Take.{takeOf};
+ghost use Rattle.ring_numbers.specs.Numbers.{noNumbers, found, foundOf};
 
 // An event. Numbers that its kind doesn't have are zero where a call gives it, and not looked at where a call gets it.
 #[repr(C)]
@@ -34,13 +29,16 @@ pub struct FoundNumbers {
     pub event: RingNumbers,
 }
 
-// With the private in_cons after it.
-pub struct TakenNumbers {
-    pub found: FoundNumbers,
-    pub in_cons: u32,
+pub fn refused(number: u8) -> FoundNumbers
+    ensures { λ r. ⌜ r ≡ found number noNumbers ⌝ }
+{
+    FoundNumbers {
+        answer: number,
+        event: convert::no_numbers(),
+    }
 }
 
-fn found_of(decoded: Decoded) -> FoundNumbers
+pub fn found_of(decoded: Decoded) -> FoundNumbers
     ensures { λ r. ⌜ r ≡ foundOf decoded ⌝ }
 {
     match decoded {
@@ -48,53 +46,6 @@ fn found_of(decoded: Decoded) -> FoundNumbers
             answer: DONE,
             event: convert::numbers_of(value),
         },
-        Decoded::Refused(number) => FoundNumbers {
-            answer: number,
-            event: convert::no_numbers(),
-        },
-    }
-}
-
-pub fn encode(out: &mut [u8], event: RingNumbers) -> u8
-    ensures { λ r. ⌜ (r ≡ encodeAnswer (now (out .entry)) event) × (now (out .exit) ≡ encodedBytes (now (out .entry)) event) ⌝ }
-{
-    if out.len() != EVENT_LENGTH {
-        return INVALID;
-    }
-    let value = convert::event_of(event);
-    if !kbdif_events::is_known(value) {
-        return MALFORMED;
-    }
-    kbdif_events::encode(out, value);
-    DONE
-}
-
-fn decoded(bytes: &[u8], contact_limit: u32) -> Decoded
-    ensures { λ r. ⌜ r ≡ decodedOf (now (bytes .entry)) «contact_limit» ⌝ }
-{
-    if bytes.len() != EVENT_LENGTH {
-        return Decoded::Refused(INVALID);
-    }
-    if !kbdif::is_contact_limit(contact_limit) {
-        return Decoded::Refused(INVALID);
-    }
-    kbdif_decode::decode(bytes, contact_limit)
-}
-
-pub fn decode(bytes: &[u8], contact_limit: u32) -> FoundNumbers
-    ensures { λ r. ⌜ r ≡ foundOf (decodedOf (now (bytes .entry)) «contact_limit») ⌝ }
-{
-    found_of(decoded(bytes, contact_limit))
-}
-
-pub fn take(page: &mut [u8], in_cons: u32, contact_limit: u32) -> TakenNumbers
-    ensures { λ r. ⌜ (r ≡ takenOf (now (page .entry)) «in_cons» «contact_limit») × (now (page .exit) ≡ takeOf (now (page .entry)) «in_cons» «contact_limit» .page) ⌝ }
-{
-    let taken = kbdif::take(page, in_cons, contact_limit);
-    let found = taken.found;
-    let next = taken.in_cons;
-    TakenNumbers {
-        found: found_of(found),
-        in_cons: next,
+        Decoded::Refused(number) => refused(number),
     }
 }

@@ -1,17 +1,20 @@
 -- Laws of the ring's page: where events stand, and what a put and a take leave of it.
 use Prim.Native.Nat.{ℕ, _+_, _-_, _≤_, _<_, _^_}
 use mathlib.Core.Path.{_≡_, sym, _∙_, subst}
+use mathlib.Core.Bool.{true, and-eq-true-iff}
 use mathlib.Core.List.{List}
 use native.Mathlib.Omega.{arith}
 use native.Mathlib.Decide.{decLt}
+use lib.Dec.{leb}
 use lib.ListN.{length, getD, length-take, length-drop}
 use lib.Seq.{ext-getD, getD-take, getD-drop}
+use borrow.Author.Tests.{leb-true}
 use Rattle.words.specs.Words.{overwrite, Agree, u32Bytes}
 use Rattle.words.proofs.Laws.Overwrite.{overwrite-length, overwrite-inside, overwrite-before, overwrite-after}
 use Rattle.words.proofs.Laws.Word.{agree-u32, u32-back}
 use Rattle.kbdif_events.specs.Event.{eventLength}
 use Rattle.kbdif_decode.specs.Decode.{between}
-use Rattle.kbdif.specs.Page.{pageLength, ringLength, inConsOf, inProdOf, withInCons, withInProd, eventPlace, eventBytesAt}
+use Rattle.kbdif.specs.Page.{pageLength, ringLength, inConsOf, inProdOf, withInCons, withInProd, eventPlace, eventBytesAt, isContactLimit}
 
 -- ---- stretches
 
@@ -42,13 +45,13 @@ overwrite-between bytes at stretch h =
     let k : i < length stretch = omega arith in
     between-at at (length stretch) (overwrite bytes at stretch) i k ∙ overwrite-inside bytes at stretch i (omega arith) k)
 
+-- ---- contact limits
+
+pub limit-positive : (limit : ℕ) → isContactLimit limit ≡ true → 1 ≤ limit
+unfolding isContactLimit
+limit-positive limit h = leb-true 1 limit (and-eq-true-iff (leb 1 limit) (leb limit 32) .0 h .0)
+
 -- ---- places
-
-pub place-low : (index : ℕ) → 1024 ≤ eventPlace index
-place-low index = omega arith
-
-pub place-inside : (index : ℕ) → eventPlace index + eventLength ≤ pageLength
-place-inside index = omega arith
 
 -- fewer than 51 events apart, one ends before the other begins
 pub places-apart : (index later : ℕ) → index < later → later < index + ringLength → eventPlace later < eventPlace index + eventLength → eventPlace later + eventLength ≤ eventPlace index

@@ -12,9 +12,9 @@ use Rattle.answers.specs.Refusals.{firstRefusal}
 use Rattle.answers.proofs.Laws.{none-holds}
 use Rattle.words.specs.Words.{overwrite}
 use Rattle.kbdif_events.specs.Event.{eventLength}
-use Rattle.kbdif_decode.specs.Decode.{decoded}
+use Rattle.kbdif_decode.specs.Decode.{decoded, mayBePut}
 use Rattle.kbdif.specs.Page.{pageLength, ringLength, inConsOf, withInProd, nextIndex, distance, eventPlace, isContactLimit}
-use Rattle.kbdif.specs.Put.{mayBePut, putRefusals, putAnswered, putOf}
+use Rattle.kbdif.specs.Put.{putRefusals, putAnswered, putOf}
 
 module _ (page : List ℕ) (inProd contactLimit : ℕ) (event : List ℕ) where
   -- what is known of a put that isn't refused

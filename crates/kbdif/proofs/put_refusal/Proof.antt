@@ -1,3 +1,6 @@
+use borrow.Author.Tests.{not-false}
+use mathlib.Core.Path.{sym, _∙_}
+use Rattle.kbdif.proofs.Laws.Page.{limit-positive}
 use borrow.Author.Tests.{eq-eqb, ne-eqb, lt-ltb, le-ltb}
 use Rattle.answers.specs.Refusals.{firstRefusal}
 use borrow.Author.Needs.{needs}
@@ -20,7 +23,7 @@ unfolding firstRefusal
 returns-3 c = rw (eq-eqb _ _ (c .before .before .before .if1 .left), eq-eqb _ _ (c .before .before .if2 .left), ← c .before .is-contact-limit .ensures, c .if3 .taken)
 
 may-be-put-requires : tie.Need-may-be-put-requires
-may-be-put-requires c κs = search needs
+may-be-put-requires c κs = (search needs, limit-positive _ (sym (c .before .is-contact-limit .ensures) ∙ not-false _ (c .if3 .left)))
 
 returns-4 : tie.Need-returns-4
 unfolding firstRefusal

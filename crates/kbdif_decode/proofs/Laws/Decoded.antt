@@ -15,12 +15,12 @@ use borrow.Author.Tests.{eq-eqb, ne-eqb, eqb-true, ltb-false, not-false}
 use Rattle.answers.specs.Answers.{malformed}
 use Rattle.answers.specs.Refusals.{firstRefusal}
 use Rattle.answers.proofs.Laws.{none-holds}
-use Rattle.words.specs.Words.{u16At, u32At, u16Bytes, u32Bytes}
+use Rattle.words.specs.Words.{u16At, u32At, u16Bytes, u32Bytes, IsBytes}
 use Rattle.kbdif_decode.specs.declared.Decoded.the-variants.{Event}
 use Rattle.kbdif_events.specs.declared.RingEvent.{RingEvent}
 use Rattle.kbdif_events.specs.declared.RingEvent.the-variants.{Unknown}
 use Rattle.kbdif_events.specs.Event.{eventLength, zeros, layoutOf, eventBytes, i32Bytes, i16Bytes, known}
-use Rattle.kbdif_decode.specs.Decode.{Bytes, i32At, i16At, lookup, touchAt, eventAt, extentOf, allZero, between, reservedIsZero, pressedAboveOne, eventRefusals, decoded}
+use Rattle.kbdif_decode.specs.Decode.{i32At, i16At, lookup, touchAt, eventAt, extentOf, allZero, between, reservedIsZero, pressedAboveOne, eventRefusals, decoded}
 use Rattle.kbdif_decode.proofs.Laws.Answer.{answered-event}
 use Rattle.kbdif_decode.proofs.Laws.Layout.{ordered}
 use Rattle.kbdif_decode.proofs.Laws.Pieces.{pieces, joined, one-byte, two-bytes, three-bytes, u16-bytes, u32-bytes}
@@ -70,7 +70,7 @@ laid-out bytes event size reserved head fields =
 record Laid (bytes : List ℕ) (event : RingEvent) : Type 0 where
   laid : known event ≡ true → reservedIsZero bytes event ≡ true → eventBytes event ≡ bytes
 
-module _ (bytes : List ℕ) (size : length bytes ≡ eventLength) (ok : Bytes bytes) where
+module _ (bytes : List ℕ) (size : length bytes ≡ eventLength) (ok : IsBytes bytes) where
   -- ---- heads
 
   plain-head : {kind : ℕ} → getD bytes 0 0 ≡ kind → kind ∷ [] ≡ between bytes 0 1
@@ -166,7 +166,7 @@ module _ (bytes : List ℕ) (size : length bytes ≡ eventLength) (ok : Bytes by
 
 -- ---- any well-formed bytes
 
-pub encode-decoded : (bytes : List ℕ) (contactLimit : ℕ) (event : RingEvent) → length bytes ≡ eventLength → Bytes bytes
+pub encode-decoded : (bytes : List ℕ) (contactLimit : ℕ) (event : RingEvent) → length bytes ≡ eventLength → IsBytes bytes
     → decoded bytes contactLimit ≡ Event event → known event ≡ true → eventBytes event ≡ bytes
 encode-decoded bytes contactLimit event size ok answer sure =
     let found = answered-event (firstRefusal (eventRefusals bytes contactLimit)) (eventAt bytes) answer in

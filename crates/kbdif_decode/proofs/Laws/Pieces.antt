@@ -6,8 +6,8 @@ use native.Mathlib.Omega.{arith}
 use native.Mathlib.Numerals.{add-one}
 use lib.ListN.{length, getD, drop, take-append-drop}
 use lib.Seq.{drop-cons, drop-drop, take-add}
-use Rattle.words.specs.Words.{u16At, u32At, u16Bytes, u32Bytes}
-use Rattle.kbdif_decode.specs.Decode.{Bytes, between}
+use Rattle.words.specs.Words.{u16At, u32At, u16Bytes, u32Bytes, IsBytes}
+use Rattle.kbdif_decode.specs.Decode.{between}
 
 -- a number's bytes are the digits that it was made of
 same : {a b : ℕ} {xs ys : List ℕ} → a ≡ b → xs ≡ ys → a ∷ xs ≡ b ∷ ys
@@ -73,7 +73,7 @@ module _ (bytes : List ℕ) where
           next (at + 3) (at + 4) (omega arith) (omega arith),
         )
 
-    module _ (ok : Bytes bytes) where
+    module _ (ok : IsBytes bytes) where
       pub u16-bytes : at + 2 ≤ length bytes → u16Bytes (u16At bytes at) ≡ between bytes at (at + 2)
       u16-bytes h = two-digits (getD bytes at 0) (getD bytes (at + 1) 0) (ok at) (ok (at + 1)) ∙ sym (two-bytes h)
 

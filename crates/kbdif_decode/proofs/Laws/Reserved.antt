@@ -1,66 +1,48 @@
--- Laws of a stretch of zero bytes, tested one after the other.
-use Prim.Native.Nat.{ℕ, zero, suc, _+_, _-_, _≤_, _<_}
+-- Laws of stretches of zero bytes, tested by the numbers that their bytes make.
+use Prim.Native.Nat.{ℕ, zero, suc, _+_, _-_, _*_, _/_, _≤_}
 use mathlib.Core.Path.{_≡_, refl, sym, ap, _∙_}
-use mathlib.Core.Bool.{Bool, true, false, _&&_, and-eq-true-iff, and-assoc}
+use mathlib.Core.Bool.{Bool, true, false, _&&_, and-assoc}
 use mathlib.Core.List.{List, [], _∷_, _++_}
 use native.Mathlib.Omega.{arith}
 use native.Mathlib.Numerals.{add-one}
+use native.Mathlib.Decide.{ℕ-discrete}
 use lib.Dec.{eqb}
-use lib.ListN.{length, getD, take, drop, drop-of-length-le}
+use lib.ListN.{length, getD, take, drop}
 use lib.Seq.{drop-cons, drop-drop, take-add}
-use borrow.Author.Tests.{eq-eqb, ne-eqb, eqb-true}
-use Rattle.words.specs.Words.{u32At}
-use Rattle.kbdif_decode.specs.Decode.{allZero, between}
+use borrow.Author.Tests.{eq-eqb, ne-eqb}
+use Rattle.words.specs.Words.{u16At, u32At, IsBytes}
+use Rattle.kbdif_events.specs.Event.{eventLength}
+use Rattle.kbdif_decode.specs.Decode.{u64At, allZero, between, zeroOutside}
 
--- the bytes before i are zero, so the rest decides
-pub record ZeroSoFar (bytes : List ℕ) (i : ℕ) : Type 0 where
-  pub inside : i ≤ length bytes
-  pub decides : allZero (drop i bytes) ≡ allZero bytes
+-- two tests that hold together
+same-test : (a b c d : ℕ) → (a ≡ b → c ≡ d) → (c ≡ d → a ≡ b) → eqb a b ≡ eqb c d
+same-test a b c d there back = elim (ℕ-discrete a b) [
+  | yes e ↦ eq-eqb a b e ∙ sym (eq-eqb c d (there e))
+  | no n ↦ ne-eqb a b n ∙ sym (ne-eqb c d (λ e. n (back e)))
+]
 
-pub none-yet : (bytes : List ℕ) → ZeroSoFar bytes 0
-none-yet bytes = record { inside = omega arith; decides = refl }
+false-after : (first second : Bool) → second ≡ false → false ≡ (first && second)
+false-after true second e = sym e
+false-after false second e = refl
 
-module _ (bytes : List ℕ) (i : ℕ) (so-far : ZeroSoFar bytes i) where
-  split : i < length bytes → allZero (drop i bytes) ≡ (eqb (getD bytes i 0) 0 && allZero (drop (i + 1) bytes))
-  unfolding allZero
-  split h = rw (add-one i, drop-cons bytes i 0 h)
+-- ---- a stretch is zero where the number that its bytes make is
 
-  pub one-more : i < length bytes → getD bytes i 0 ≡ 0 → ZeroSoFar bytes (i + 1)
-  one-more h none = record { inside = omega arith; decides = sym (split h ∙ rw (eq-eqb (getD bytes i 0) 0 none)) ∙ so-far .decides }
+numberFrom : List ℕ → ℕ → ℕ → ℕ
+numberFrom bytes at zero = 0
+numberFrom bytes at (suc count) = getD bytes at 0 + 256 * numberFrom bytes (at + 1) count
 
-  pub one-not : i < length bytes → (getD bytes i 0 ≡ 0 → ⊥) → false ≡ allZero bytes
-  one-not h some = sym (split h ∙ rw (ne-eqb (getD bytes i 0) 0 some)) ∙ so-far .decides
+both-zero : (byte rest : ℕ) → (eqb byte 0 && eqb rest 0) ≡ eqb (byte + 256 * rest) 0
+both-zero byte rest = elim (ℕ-discrete byte 0) [
+  | yes e ↦ rw (eq-eqb byte 0 e) (same-test rest 0 (byte + 256 * rest) 0 (λ f. omega arith) (λ f. omega arith))
+  | no n ↦ rw (ne-eqb byte 0 n) (sym (ne-eqb (byte + 256 * rest) 0 (λ f. n (omega arith))))
+]
 
-  pub all-passed : length bytes ≤ i → true ≡ allZero bytes
-  unfolding allZero
-  all-passed h = sym (rw (drop-of-length-le bytes {i = i} h)) ∙ so-far .decides
-
--- ---- four bytes at a time
-
-zero-at : (bytes : List ℕ) → allZero bytes ≡ true → (i : ℕ) → getD bytes i 0 ≡ 0
-unfolding allZero
-zero-at [] h i = refl
-zero-at (byte ∷ rest) h zero = eqb-true byte 0 (and-eq-true-iff (eqb byte 0) (allZero rest) .0 h .0)
-zero-at (byte ∷ rest) h (suc i) = zero-at rest (and-eq-true-iff (eqb byte 0) (allZero rest) .0 h .1) i
-
-module _ (bytes : List ℕ) (i : ℕ) (so-far : ZeroSoFar bytes i) (room : i + 4 ≤ length bytes) where
-  pub word-more : u32At bytes i ≡ 0 → ZeroSoFar bytes (i + 4)
-  word-more none =
-      let one = one-more bytes i so-far (omega arith) (omega (arith, none)) in
-      let two = one-more bytes (i + 1) one (omega arith) (omega (arith, none)) in
-      let e : i + 1 + 1 ≡ i + 2 = omega arith in
-      let three = one-more bytes (i + 2) (rw e at two) (omega arith) (omega (arith, none)) in
-      let f : i + 2 + 1 ≡ i + 3 = omega arith in
-      let four = one-more bytes (i + 3) (rw f at three) (omega arith) (omega (arith, none)) in
-      let g : i + 3 + 1 ≡ i + 4 = omega arith in
-      rw g at four
-
-  pub word-not : (u32At bytes i ≡ 0 → ⊥) → false ≡ allZero bytes
-  word-not some = go (allZero bytes) refl
-    where
-      go : (test : Bool) → allZero bytes ≡ test → false ≡ allZero bytes
-      go false e = sym e
-      go true e = absurd (some (omega (arith, zero-at bytes e i, zero-at bytes e (i + 1), zero-at bytes e (i + 2), zero-at bytes e (i + 3))))
+stretch-number : (bytes : List ℕ) (at count : ℕ) → at + count ≤ length bytes → allZero (take count (drop at bytes)) ≡ eqb (numberFrom bytes at count) 0
+unfolding allZero numberFrom
+stretch-number bytes at zero h = refl
+stretch-number bytes at (suc count) h =
+    let next : drop at bytes ≡ getD bytes at 0 ∷ drop (at + 1) bytes = rw (add-one, drop-cons bytes at 0 (omega arith)) in
+    rw (next, stretch-number bytes (at + 1) count (omega arith)) (both-zero (getD bytes at 0) (numberFrom bytes (at + 1) count))
 
 -- ---- two stretches, one after the other
 
@@ -78,3 +60,47 @@ zero-between bytes from middle until low high =
     ∙ ap allZero (take-add (middle - from) (until - middle) (drop from bytes))
     ∙ zero-append (take (middle - from) (drop from bytes)) (take (until - middle) (drop (middle - from) (drop from bytes)))
     ∙ ap (λ (rest : List ℕ). allZero (between bytes from middle) && allZero (take (until - middle) rest)) (drop-drop (middle - from) from bytes ∙ ap (λ (n : ℕ). drop n bytes) there)
+
+-- ---- the stretches that events leave reserved
+
+pub not-after : (bytes : List ℕ) (head start end : ℕ) → allZero (between bytes end eventLength) ≡ false → false ≡ zeroOutside bytes head start end
+not-after bytes head start end e = false-after (allZero (between bytes head start)) (allZero (between bytes end eventLength)) e
+
+module _ (bytes : List ℕ) (size : length bytes ≡ eventLength) where
+  -- a stretch whose number is a word
+  word-is : (at count word : ℕ) → at + count ≤ eventLength → numberFrom bytes at count ≡ word → allZero (take count (drop at bytes)) ≡ eqb word 0
+  word-is at count word h e = stretch-number bytes at count (omega arith) ∙ ap (λ (n : ℕ). eqb n 0) e
+
+  pub after-head : allZero (between bytes 1 4) ≡ eqb (u32At bytes 0) (getD bytes 0 0)
+  unfolding numberFrom
+  after-head = stretch-number bytes 1 3 (omega arith) ∙ same-test (numberFrom bytes 1 3) 0 (u32At bytes 0) (getD bytes 0 0) (λ e. omega arith) (λ e. omega arith)
+
+  pub after-pressed : allZero (between bytes 2 4) ≡ eqb (u16At bytes 2) 0
+  unfolding numberFrom
+  after-pressed = word-is 2 2 (u16At bytes 2) (omega arith) (omega arith)
+
+  pub after-contact : IsBytes bytes → allZero (between bytes 3 8) ≡ eqb (u64At bytes 0 / 65536) (getD bytes 2 0)
+  unfolding numberFrom
+  after-contact ok =
+      let low = ok 0 in
+      let high = ok 1 in
+      stretch-number bytes 3 5 (omega arith)
+      ∙ same-test (numberFrom bytes 3 5) 0 (u64At bytes 0 / 65536) (getD bytes 2 0) (λ e. omega arith) (λ e. omega arith)
+
+  pub after-keycode : allZero (between bytes 8 eventLength) ≡ (eqb (u64At bytes 8) 0 && allZero (between bytes 16 eventLength))
+  unfolding numberFrom
+  after-keycode =
+      zero-between bytes 8 16 eventLength (omega arith) (omega arith)
+      ∙ rw (word-is 8 8 (u64At bytes 8) (omega arith) (omega arith))
+
+  pub after-orientation : allZero (between bytes 10 eventLength) ≡ (eqb (u16At bytes 10) 0 && (eqb (u32At bytes 12) 0 && allZero (between bytes 16 eventLength)))
+  unfolding numberFrom
+  after-orientation =
+      zero-between bytes 10 12 eventLength (omega arith) (omega arith)
+      ∙ rw (zero-between bytes 12 16 eventLength (omega arith) (omega arith), word-is 10 2 (u16At bytes 10) (omega arith) (omega arith), word-is 12 4 (u32At bytes 12) (omega arith) (omega arith))
+
+  pub tail : allZero (between bytes 16 eventLength) ≡ (eqb (u64At bytes 16) 0 && (eqb (u64At bytes 24) 0 && eqb (u64At bytes 32) 0))
+  unfolding numberFrom
+  tail =
+      zero-between bytes 16 24 eventLength (omega arith) (omega arith)
+      ∙ rw (zero-between bytes 24 32 eventLength (omega arith) (omega arith), word-is 16 8 (u64At bytes 16) (omega arith) (omega arith), word-is 24 8 (u64At bytes 24) (omega arith) (omega arith), word-is 32 8 (u64At bytes 32) (omega arith) (omega arith))

@@ -1,3 +1,4 @@
+use mathlib.Core.Path.{_∙_}
 use borrow.Author.Needs.{needs}
 use Rattle.ring_numbers.proofs.found_of.Statement.{statement}
 use Rattle.ring_numbers.proofs.found_of.Tie as tie
@@ -11,14 +12,14 @@ numbers-of-requires c κs = search needs
 enum-known-decoded-2 : tie.Need-enum-known-decoded-2
 enum-known-decoded-2 c = search needs
 
-no-numbers-requires : tie.Need-no-numbers-requires
-no-numbers-requires c κs = search needs
+refused-requires : tie.Need-refused-requires
+refused-requires c κs = search needs
 
 returns : tie.Need-returns
 returns c = rw (c .numbers-of .ensures, c .before .before .decoded .given .1)
 
 returns-2 : tie.Need-returns-2
-returns-2 c = rw (c .no-numbers .ensures, c .before .before .decoded2 .given .1)
+returns-2 c = c .refused .ensures ∙ rw (c .before .before .decoded2 .given .1)
 
 pub found-of-spec : {M : Type 1} → statement M
 found-of-spec =
@@ -27,6 +28,6 @@ found-of-spec =
     enum-known-decoded
     numbers-of-requires
     enum-known-decoded-2
-    no-numbers-requires
+    refused-requires
     returns
     returns-2)

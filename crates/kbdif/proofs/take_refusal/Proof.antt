@@ -1,9 +1,8 @@
-use mathlib.Core.Path.{_∙_}
-use borrow.Author.Tests.{eq-eqb, ne-eqb, lt-ltb, le-ltb}
 use Rattle.answers.specs.Refusals.{firstRefusal}
+use borrow.Author.Tests.{eq-eqb, ne-eqb, lt-ltb, le-ltb}
 use borrow.Author.Needs.{needs}
-use Rattle.kbdif.proofs.find.Statement.{statement}
-use Rattle.kbdif.proofs.find.Tie as tie
+use Rattle.kbdif.proofs.take_refusal.Statement.{statement}
+use Rattle.kbdif.proofs.take_refusal.Tie as tie
 
 returns : tie.Need-returns
 unfolding firstRefusal
@@ -30,30 +29,12 @@ returns-4 : tie.Need-returns-4
 unfolding firstRefusal
 returns-4 c = rw (eq-eqb _ _ (c .before .before .before .before .before .before .if1 .left), ← c .before .before .before .before .before .is-contact-limit .ensures, c .before .before .before .before .if2 .left, ← c .before .before .before .read-u32 .ensures, ← c .before .before .distance .ensures, le-ltb _ _ (c .before .if3 .left), eq-eqb _ _ (c .if4 .taken))
 
-event-place-requires : tie.Need-event-place-requires
-event-place-requires c κs = search needs
-
-add-decode : tie.Need-add-decode
-add-decode c = search needs
-
-sub-decode : tie.Need-sub-decode
-sub-decode c = search needs
-
-part-decode-start : tie.Need-part-decode-start
-part-decode-start c = search needs
-
-part-decode-end : tie.Need-part-decode-end
-part-decode-end c = search needs
-
-decode-requires : tie.Need-decode-requires
-decode-requires c κs = search needs
-
 returns-5 : tie.Need-returns-5
 unfolding firstRefusal
-returns-5 c = c .decode .ensures .1 ∙ rw (eq-eqb _ _ (c .before .before .before .before .before .before .before .before .before .if1 .left), ← c .before .before .before .before .before .before .before .before .is-contact-limit .ensures, c .before .before .before .before .before .before .before .if2 .left, ← c .before .before .before .before .before .before .read-u32 .ensures, ← c .before .before .before .before .before .distance .ensures, le-ltb _ _ (c .before .before .before .before .if3 .left), ne-eqb _ _ (c .before .before .before .if4 .left), c .before .before .event-place .ensures .0)
+returns-5 c = rw (eq-eqb _ _ (c .before .before .before .before .before .before .if1 .left), ← c .before .before .before .before .before .is-contact-limit .ensures, c .before .before .before .before .if2 .left, ← c .before .before .before .read-u32 .ensures, ← c .before .before .distance .ensures, le-ltb _ _ (c .before .if3 .left), ne-eqb _ _ (c .if4 .left))
 
-pub find-spec : {M : Type 1} → statement M
-find-spec =
+pub take-refusal-spec : {M : Type 1} → statement M
+take-refusal-spec =
     tie.close
     (tie.spec
     returns
@@ -63,10 +44,4 @@ find-spec =
     distance-requires
     returns-3
     returns-4
-    event-place-requires
-    add-decode
-    sub-decode
-    part-decode-start
-    part-decode-end
-    decode-requires
     returns-5)

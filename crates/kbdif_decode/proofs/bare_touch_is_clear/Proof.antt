@@ -1,0 +1,21 @@
+use borrow.Author.Tests.{eq-eqb, ne-eqb}
+use Rattle.kbdif_decode.proofs.Laws.Reserved.{after-keycode, not-after}
+use borrow.Author.Needs.{needs}
+use Rattle.kbdif_decode.proofs.bare_touch_is_clear.Statement.{statement}
+use Rattle.kbdif_decode.proofs.bare_touch_is_clear.Tie as tie
+
+eight-at-requires : tie.Need-eight-at-requires
+eight-at-requires c κs = search needs
+
+returns : tie.Need-returns
+returns c = not-after (c .before .before .before .args .bytes .now) 3 8 8 (rw (after-keycode (c .before .before .before .args .bytes .now) (c .before .before .before .pre), ← c .before .eight-at .ensures, ne-eqb _ _ (c .if1 .taken)))
+
+touch-is-clear-requires : tie.Need-touch-is-clear-requires
+touch-is-clear-requires c κs = search needs
+
+returns-2 : tie.Need-returns-2
+returns-2 c = rw (after-keycode (c .before .before .before .before .args .bytes .now) (c .before .before .before .before .pre), ← c .before .before .eight-at .ensures, eq-eqb _ _ (c .before .if1 .left)) (c .touch-is-clear .ensures)
+
+pub bare-touch-is-clear-spec : {M : Type 1} → statement M
+bare-touch-is-clear-spec =
+    tie.close (tie.spec eight-at-requires returns touch-is-clear-requires returns-2)
