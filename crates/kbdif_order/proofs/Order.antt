@@ -10,10 +10,10 @@ use Rattle.kbdif_events.specs.declared.RingEvent.{RingEvent}
 use Rattle.kbdif_decode.specs.Decode.{eventAt}
 use Rattle.kbdif_decode.specs.declared.Decoded.the-variants.{Event, Refused}
 use Rattle.kbdif.specs.Page.{eventBytesAt}
-use Rattle.kbdif_order.specs.Order.{Call, putting, taking, Ring, fresh, after, Entry, put, took, entryOf, logOf, eventsPut, eventsTaken, isDry, Order}
-use Rattle.kbdif_order.proofs.Log.{Run, nothing, put-count, put-logged, refused-count, refused-logged, take-count, take-logged, dry-logged}
+use Rattle.kbdif_order.specs.Order.{Call, putting, taking, Ring, fresh, after, Entry, took, entryOf, logOf, eventsPut, eventsTaken, isNothingToRead, Order}
+use Rattle.kbdif_order.proofs.Log.{Run, nothing, put-count, put-logged, refused-count, refused-logged, take-count, take-logged, idle-logged}
 use Rattle.kbdif_order.proofs.Waiting.{waitingIn, Good, fresh-good, none-waits as fresh-waits}
-use Rattle.kbdif_order.proofs.Puts.{putNumber, put-stays, put-refused, filled, put-goes-on, put-accepted, put-good, put-waits}
+use Rattle.kbdif_order.proofs.Puts.{putNumber, put-stays, put-refused, put-sound, filled, put-goes-on, put-accepted, put-good, put-waits}
 use Rattle.kbdif_order.proofs.Takes.{event, idle, taking-is, emptied, take-goes-on, take-answered, take-good, take-waits, take-stays, take-refused, none-waits}
 
 -- the log after a call, from what the call leaves and answers
@@ -44,7 +44,7 @@ module _ (contactLimit : ℕ) (calls : List Call) (rest : Claim contactLimit cal
         let log = step contactLimit ring (putting bytes) calls (put-stays contactLimit ring bytes refused) (put-refused contactLimit ring bytes refused) in
         let n = ap (λ (log : List Entry). length (eventsPut log)) log ∙ ap length (refused-count (logOf contactLimit ring calls) dry (waitingIn ring) bytes number refused) in
         subst (λ (log : List Entry). Run log dry (waitingIn ring)) (sym log)
-        (refused-logged _ dry _ bytes number refused (rest left ring false (sym n ∙ count) good never))
+        (refused-logged _ dry _ bytes number refused (put-sound contactLimit ring bytes good) (rest left ring false (sym n ∙ count) good never))
     | yes none ↦
         let later : Ring = filled contactLimit ring bytes in
         let log = step contactLimit ring (putting bytes) calls refl (put-accepted contactLimit ring bytes none) in
@@ -69,11 +69,11 @@ module _ (contactLimit : ℕ) (calls : List Call) (rest : Claim contactLimit cal
         let run = rest left later false (sym n ∙ count) (take-good contactLimit left ring good some is) never in
         subst (λ (log : List Entry). Run log dry (waitingIn ring)) (sym log)
         (subst (λ (waited : List RingEvent). Run (took (Event oldest) ∷ logOf contactLimit later calls) dry waited) (sym (take-waits contactLimit left ring good some is)) (take-logged _ dry _ oldest run))
-    | idle number is no-event empty ↦
+    | idle number is no-event fine empty ↦
         let log = step contactLimit ring taking calls (take-stays contactLimit left ring good number is no-event) (take-refused contactLimit left ring good number is no-event) in
         let n = ap (λ (log : List Entry). length (eventsPut log)) log ∙ take-count _ dry (waitingIn ring) _ in
-        let run = rest left ring (isDry (took (Refused number))) (sym n ∙ count) good (λ h. none-waits contactLimit left ring good (empty h)) in
-        subst (λ (log : List Entry). Run log dry (waitingIn ring)) (sym log) (dry-logged _ dry _ number run)
+        let run = rest left ring (isNothingToRead (took (Refused number))) (sym n ∙ count) good (λ h. none-waits contactLimit left ring good (empty h)) in
+        subst (λ (log : List Entry). Run log dry (waitingIn ring)) (sym log) (idle-logged _ dry _ number fine run)
   ]
 
 runs : (contactLimit : ℕ) (calls : List Call) → Claim contactLimit calls
@@ -91,4 +91,5 @@ order contactLimit calls early =
       waiting = run .waiting;
       front = front;
       whole = λ h. sym (append-nil (eventsTaken log)) ∙ ap (λ (events : List RingEvent). eventsTaken log ++ events) (sym (run .empty h)) ∙ front;
+      sound = run .sound;
     }

@@ -1,20 +1,21 @@
 -- What a put does to a good ring.
 use Prim.Native.Nat.{ℕ, suc, _+_, _-_, _≤_, _<_}
 use mathlib.Core.Path.{_≡_, refl, ap, _∙_}
-use mathlib.Core.Bool.{true, false≢true}
+use mathlib.Core.Bool.{Bool, true, false, false≢true}
 use mathlib.Core.List.{List, [], _∷_, _++_}
 use native.Mathlib.Omega.{arith}
 use native.Mathlib.Decide.{ℕ-discrete, decLt}
-use borrow.Author.Tests.{ne-eqb}
-use Rattle.answers.specs.Answers.{done}
+use lib.Dec.{ltb}
+use borrow.Author.Tests.{ne-eqb, le-ltb}
+use Rattle.answers.specs.Answers.{done, invalid, malformed, badIndex, noRoom}
 use Rattle.answers.specs.Refusals.{firstRefusal}
 use Rattle.words.specs.Words.{overwrite}
-use Rattle.kbdif_decode.specs.Decode.{eventAt, eventRefusals, decoded}
-use Rattle.kbdif.specs.Page.{ringLength, withInProd, nextIndex, distance, eventPlace, eventBytesAt}
-use Rattle.kbdif.specs.Put.{mayBePut, putRefusals, putAnswered}
+use Rattle.kbdif_decode.specs.Decode.{eventAt, eventRefusals, decoded, mayBePut}
+use Rattle.kbdif.specs.Page.{ringLength, inConsOf, withInProd, nextIndex, distance, eventPlace, eventBytesAt}
+use Rattle.kbdif.specs.Put.{putRefusals, putAnswered}
 use Rattle.kbdif.proofs.Laws.Page.{put-length, put-moved, put-cons, put-same, put-other}
 use Rattle.kbdif.proofs.Laws.Put.{Accepted, accepted}
-use Rattle.kbdif_order.specs.Order.{Ring, putting, after, put, entryOf}
+use Rattle.kbdif_order.specs.Order.{Ring, putting, after, put, entryOf, isSound}
 use Rattle.kbdif_order.proofs.Waiting.{waitingIn, one-more, same-events, Good, near}
 
 -- what may be put isn't refused when it is taken
@@ -26,6 +27,16 @@ put-fine bytes contactLimit h = go (firstRefusal (eventRefusals bytes contactLim
       | yes z ↦ e ∙ z
       | no n ↦ absurd (false≢true (rw (e, ne-eqb number done n) at h))
     ]
+
+-- where the index is possible, no put is answered 10
+not-bad-index : (a b c d f : Bool) → firstRefusal ((a, invalid) ∷ (b, invalid) ∷ (c, invalid) ∷ (d, malformed) ∷ (false, badIndex) ∷ (f, noRoom) ∷ []) ≡ badIndex → ⊥
+unfolding firstRefusal
+not-bad-index true b c d f e = omega arith
+not-bad-index false true c d f e = omega arith
+not-bad-index false false true d f e = omega arith
+not-bad-index false false false true f e = omega arith
+not-bad-index false false false false true e = omega arith
+not-bad-index false false false false false e = omega arith
 
 module _ (contactLimit : ℕ) (ring : Ring) (event : List ℕ) where
   abbrev pub putNumber : ℕ
@@ -41,6 +52,14 @@ module _ (contactLimit : ℕ) (ring : Ring) (event : List ℕ) where
     pub put-refused : entryOf contactLimit ring (putting event) ≡ put event putNumber
     unfolding putAnswered
     put-refused = rw (ne-eqb putNumber done refused)
+
+  pub put-sound : {left : ℕ} → Good contactLimit left ring → isSound (put event putNumber) ≡ true
+  put-sound good =
+      let early = good .early in
+      let few = good .few in
+      let d = near (ring .inProd) (ring .inCons) (good .ordered) (omega arith) in
+      let index : ltb ringLength (distance (ring .inProd) (inConsOf (ring .page))) ≡ false = rw (good .cons-held, d) (le-ltb ringLength (ring .inProd - ring .inCons) (omega arith)) in
+      rw (ne-eqb putNumber badIndex (λ e. not-bad-index _ _ _ _ _ (rw index at e)))
 
   -- ---- accepted
 

@@ -17,7 +17,7 @@ use Rattle.kbdif_decode.specs.declared.Decoded.the-variants.{Event, Refused}
 use Rattle.kbdif.specs.Page.{pageLength, ringLength, inProdOf, withInCons, nextIndex, distance, eventBytesAt, isContactLimit}
 use Rattle.kbdif.specs.Take.{takeNumber, foundBy, takeAnswered}
 use Rattle.kbdif.proofs.Laws.Page.{cons-length, cons-moved, cons-prod, cons-event}
-use Rattle.kbdif_order.specs.Order.{Ring, taking, after, took, isDry, entryOf}
+use Rattle.kbdif_order.specs.Order.{Ring, taking, after, took, isNothingToRead, entryOf, isSound}
 use Rattle.kbdif_order.proofs.Waiting.{eventsFrom, waitingIn, same-events, Good, near}
 
 module _ (contactLimit left : ℕ) (ring : Ring) (good : Good contactLimit left ring) where
@@ -27,7 +27,7 @@ module _ (contactLimit left : ℕ) (ring : Ring) (good : Good contactLimit left 
   -- a take finds the oldest event, or it changes nothing, and an 11 tells of an empty ring
   pub data Taking : Type 0 where
     event : ring .inCons < ring .inProd → found ≡ Event (eventAt (eventBytesAt (ring .page) (ring .inCons))) → Taking
-    idle : (number : ℕ) → found ≡ Refused number → eqb number malformed ≡ false → (isDry (took (Refused number)) ≡ true → ring .inProd ≡ ring .inCons) → Taking
+    idle : (number : ℕ) → found ≡ Refused number → eqb number malformed ≡ false → isSound (took (Refused number)) ≡ true → (isNothingToRead (took (Refused number)) ≡ true → ring .inProd ≡ ring .inCons) → Taking
 
   whole : not (eqb (length (ring .page)) pageLength) ≡ false
   whole = rw (eq-eqb (length (ring .page)) pageLength (good .size))
@@ -46,7 +46,7 @@ module _ (contactLimit left : ℕ) (ring : Ring) (good : Good contactLimit left 
       go : (allowed : Bool) → isContactLimit contactLimit ≡ allowed → Taking
       go false e =
           let bad : not (isContactLimit contactLimit) ≡ true = rw e in
-          idle invalid (answer (passed invalid _ whole ∙ refused invalid _ bad)) refl (λ h. absurd (false≢true h))
+          idle invalid (answer (passed invalid _ whole ∙ refused invalid _ bad)) refl refl (λ h. absurd (false≢true h))
       go true e =
           let o = good .ordered in
           let f = good .few in
@@ -56,7 +56,7 @@ module _ (contactLimit left : ℕ) (ring : Ring) (good : Good contactLimit left 
           elim (ℕ-discrete (ring .inProd) (ring .inCons)) [
             | yes same ↦
                 let zero : ring .inProd - ring .inCons ≡ 0 = omega arith in
-                idle nothingToRead (answer (sound ∙ refused nothingToRead _ (eq-eqb _ 0 (unread ∙ zero)))) refl (λ h. same)
+                idle nothingToRead (answer (sound ∙ refused nothingToRead _ (eq-eqb _ 0 (unread ∙ zero)))) refl refl (λ h. same)
             | no n ↦
                 let some : eqb (distance (inProdOf (ring .page)) (ring .inCons)) 0 ≡ false = rw unread (ne-eqb (ring .inProd - ring .inCons) 0 (λ z. n (omega arith))) in
                 event (omega arith) (answer (sound ∙ passed nothingToRead _ some ∙ good .fine (ring .inCons) (omega arith) (omega arith)))

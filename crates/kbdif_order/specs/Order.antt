@@ -3,16 +3,16 @@
 -- Take a zero page, both private indices 0, and one contact limit. Let only these calls change the page, and let fewer
 -- than 2^32 puts be accepted, so that neither index wraps. Then after every list of puts and takes, refused ones
 -- included, the events taken are a front part of the events put, in order. They are all of them if the last call was a
--- take that answered 11.
+-- take that answered 11. No call answers 10, and no take 9.
 --
 -- The limit may be any number: one that isn't 1 to 32 refuses every call. A put may be given any list of numbers.
 use Prim.Native.Nat.{ℕ, _<_, _^_}
 use mathlib.Core.Path.{_≡_}
-use mathlib.Core.Bool.{Bool, true, false, cond}
+use mathlib.Core.Bool.{Bool, true, false, not, _&&_, cond}
 use mathlib.Core.List.{List, [], _∷_, _++_}
 use lib.Dec.{eqb}
 use lib.ListN.{length, replicate}
-use Rattle.answers.specs.Answers.{done, nothingToRead}
+use Rattle.answers.specs.Answers.{done, malformed, badIndex, nothingToRead}
 use Rattle.kbdif_events.specs.declared.RingEvent.{RingEvent}
 use Rattle.kbdif_decode.specs.Decode.{eventAt}
 use Rattle.kbdif_decode.specs.declared.Decoded.{Decoded}
@@ -78,23 +78,34 @@ eventsTaken (took (Event event) ∷ log) = event ∷ eventsTaken log
 eventsTaken (took (Refused number) ∷ log) = eventsTaken log
 
 -- A take that answered 11.
-abbrev pub isDry : Entry → Bool
-isDry (put event answer) = false
-isDry (took (Event event)) = false
-isDry (took (Refused number)) = eqb number nothingToRead
+abbrev pub isNothingToRead : Entry → Bool
+isNothingToRead (put event answer) = false
+isNothingToRead (took (Event event)) = false
+isNothingToRead (took (Refused number)) = eqb number nothingToRead
 
 -- Whether the last entry is one, where `before` tells of the entry before these.
-unfoldable pub endsDry : Bool → List Entry → Bool
-endsDry before [] = before
-endsDry before (entry ∷ log) = endsDry (isDry entry) log
+unfoldable pub endsWithNothingToRead : Bool → List Entry → Bool
+endsWithNothingToRead before [] = before
+endsWithNothingToRead before (entry ∷ log) = endsWithNothingToRead (isNothingToRead entry) log
+
+-- A put that isn't answered 10, and a take that isn't answered 10 or 9.
+abbrev pub isSound : Entry → Bool
+isSound (put event answer) = not (eqb answer badIndex)
+isSound (took (Event event)) = true
+isSound (took (Refused number)) = not (eqb number badIndex) && not (eqb number malformed)
+
+unfoldable pub allSound : List Entry → Bool
+allSound [] = true
+allSound (entry ∷ log) = isSound entry && allSound log
 
 -- ---- the theorem
 
--- What was taken, and then what still waits, is what was put.
+-- What was taken, and then what still waits, is what was put. No call finds an impossible index, and no take a badly formed event.
 pub record InOrder (log : List Entry) : Type 0 where
   pub waiting : List RingEvent
   pub front : eventsTaken log ++ waiting ≡ eventsPut log
-  pub whole : endsDry false log ≡ true → eventsTaken log ≡ eventsPut log
+  pub whole : endsWithNothingToRead false log ≡ true → eventsTaken log ≡ eventsPut log
+  pub sound : allSound log ≡ true
 
 abbrev pub Order : Type 0
 Order =
