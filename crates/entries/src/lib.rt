@@ -9,7 +9,7 @@ pub use offer::is_offered;
 ghost use mathlib.Core.Path.{_≡_};
 ghost use mathlib.Core.Bool.{true};
 ghost use Prim.Native.Nat.{_+_, _≤_, _<_};
-ghost use lib.ListN.{length, take, drop};
+ghost use lib.ListN.{length};
 ghost use Rattle.geometry.specs.Geometry.{allowed, slotCount};
 ghost use Rattle.entries.specs.Entry.{isPresent, withEntry, withoutEntry};
 ghost use Rattle.entries.specs.Lookup.{lookupAnswer, lookupPart};

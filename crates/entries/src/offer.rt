@@ -1,6 +1,11 @@
 // Whether an entry offers an event: straight to the word and the bit.
 use crate::EVBITS;
 use records::Event;
+use records::codes::EV_ABS;
+use records::codes::EV_KEY;
+use records::codes::EV_REL;
+use records::codes::EV_SYN;
+use records::codes::SYN_MT_REPORT;
 ghost use mathlib.Core.Path.{_≡_};
 ghost use mathlib.Core.Bool.{_&&_};
 ghost use Prim.Native.Nat.{_+_, _*_, _/_, _%_, _≤_, _<_};
@@ -62,10 +67,10 @@ fn offers_code(entry: &[u8], kind: u16, code: u16) -> bool
     ensures { λ r. ⌜ r ≡ offersCode (now (entry .entry)) kind code ⌝ }
 {
     match kind {
-        0 => code == 2,
-        1 => offers_button(entry, code),
-        2 => code < 32,
-        3 => offers_absolute(entry, code),
+        EV_SYN => code == SYN_MT_REPORT,
+        EV_KEY => offers_button(entry, code),
+        EV_REL => code < 32,
+        EV_ABS => offers_absolute(entry, code),
         _ => false,
     }
 }
