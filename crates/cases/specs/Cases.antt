@@ -10,7 +10,7 @@ use Rattle.records.specs.Ring.{unreadCount, hasRoom}
 use Rattle.entries.specs.Offer.{isOffered}
 use Rattle.device.specs.declared.Device.{Device}
 use Rattle.packets.specs.Rule.{PacketResult, packetAnswer, packetOf}
-use Rattle.registers.specs.SwitchOn.{WriteResult}
+use Rattle.switch_on.specs.SwitchOn.{WriteResult}
 use Rattle.registers.specs.Write.{writeOf}
 use Rattle.kbdif.specs.Page.{eventPlace}
 use Rattle.cases.specs.Setting.{sizes, fine, coarse, page, off, on, area, motions, absolute}
@@ -61,7 +61,7 @@ cases =
     ∷ case "READ_PTR 510 at R = 511" (packetAnswer fine (on 0) (area 510 0) page 4 (motions 1)) 0
     ∷ case "ABS code 0x35 by bit 21 of absbits' second word" (number (isOffered (absolute (2 ^ 21)) (record { kind = 3; code = 0x35; value = 0 }))) 1
     ∷ case "ABS code 0x35 by bit 20 of it" (number (isOffered (absolute (2 ^ 20)) (record { kind = 3; code = 0x35; value = 0 }))) 0
-    ∷ case "keyboard ring: index 4294967295 stands where place 0 begins" (eventPlace 4294967295) (eventPlace 0)
+    ∷ case "keyboard ring: index 4294967295 has place 0, which begins at" (eventPlace 4294967295) 1024
     ∷ case "keyboard ring: place 50 begins at" (eventPlace 50) 3024
     ∷ []
 

@@ -27,14 +27,14 @@ use Rattle.driver.specs.Step.{isValid, stepOf}
 use Rattle.driver.specs.CopyOut.{copyOf}
 use Rattle.device.specs.Call.{isCall}
 use Rattle.delivery.specs.World.{World, Call, write, call}
-use Rattle.delivery.specs.Log.{Entry, Item, logOf, after, received, sent, numberIn, endsDry}
-use Rattle.delivery.specs.Premises.{IsFresh, AllAllowed}
+use Rattle.delivery.specs.Log.{Entry, Item, logOf, after, received, sent, numberIn, endsWithNothingToRead}
+use Rattle.delivery.specs.Premises.{IsFresh, AllBelong}
 
 -- Front part, and all of them right after "nothing to read".
 pub record Delivered (log : List Entry) : Type 0 where
   pub waiting : List Item
   pub front : received log ++ waiting ≡ sent log
-  pub all : endsDry log ≡ true → received log ≡ sent log
+  pub all : endsWithNothingToRead log ≡ true → received log ≡ sent log
 
 -- No state or geometry is refused.
 pub record StateHolds (geometry : Geometry) (world : World) : Type 0 where
@@ -56,32 +56,32 @@ Delivery =
     (geometry : Geometry) → allowed geometry ≡ true
     → (world : World) → IsFresh (world .collector) → world .device .on ≡ false
     → (offset width value : ℕ) → call geometry world (write offset width value) .world .device .on ≡ true
-    → (calls : List Call) → AllAllowed geometry (call geometry world (write offset width value) .world) calls
+    → (calls : List Call) → AllBelong geometry (call geometry world (write offset width value) .world) calls
     → AfterList geometry (call geometry world (write offset width value) .world) calls
 
 -- ---- the last sentence, for each call of the driver in any state
 
-abbrev pub StepUnknowing : Type 0
-StepUnknowing =
+abbrev pub StepIndependent : Type 0
+StepIndependent =
     (geometry : Geometry) (driver : Driver) (packet left right : List ℕ) → SameToDriver (ringOf geometry) left right
     → (stepOf geometry driver left packet .stepped ≡ stepOf geometry driver right packet .stepped)
     × (stepOf geometry driver left packet .packet ≡ stepOf geometry driver right packet .packet)
     × SameToDriver (ringOf geometry) (stepOf geometry driver left packet .area) (stepOf geometry driver right packet .area)
 
-abbrev pub CopyOutUnknowing : Type 0
-CopyOutUnknowing =
+abbrev pub CopyOutIndependent : Type 0
+CopyOutIndependent =
     (geometry : Geometry) (limit : ℕ) (out left right : List ℕ) → SameToDriver (ringOf geometry) left right
     → (copyOf geometry left limit out .copied ≡ copyOf geometry right limit out .copied)
     × (copyOf geometry left limit out .out ≡ copyOf geometry right limit out .out)
     × SameToDriver (ringOf geometry) (copyOf geometry left limit out .area) (copyOf geometry right limit out .area)
 
-abbrev pub LookupUnknowing : Type 0
-LookupUnknowing =
+abbrev pub LookupIndependent : Type 0
+LookupIndependent =
     (geometry : Geometry) (left right : List ℕ) (slot : ℕ) → SamePages geometry left right
     → (lookupAnswer geometry left slot ≡ lookupAnswer geometry right slot) × (lookupPart geometry left slot ≡ lookupPart geometry right slot)
 
 pub record Demand3 : Type 0 where
   pub delivery : Delivery
-  pub step-unknowing : StepUnknowing
-  pub copy-out-unknowing : CopyOutUnknowing
-  pub lookup-unknowing : LookupUnknowing
+  pub step-independent : StepIndependent
+  pub copy-out-independent : CopyOutIndependent
+  pub lookup-independent : LookupIndependent

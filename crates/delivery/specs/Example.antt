@@ -13,8 +13,8 @@ use Rattle.records.specs.Codes.{EV-REL, noSlot}
 use Rattle.assembly.specs.Transition.{freshDriver}
 use Rattle.device.specs.declared.Device.{Device}
 use Rattle.delivery.specs.World.{World, Call, write, add, remove, packet, step, call}
-use Rattle.delivery.specs.Log.{Item, gap, whole, logOf, received, sent, endsDry}
-use Rattle.delivery.specs.Premises.{IsFresh, AllAllowed}
+use Rattle.delivery.specs.Log.{Item, gap, whole, logOf, received, sent, endsWithNothingToRead}
+use Rattle.delivery.specs.Premises.{IsFresh, AllBelong}
 
 -- One page of records of 64 bytes: a ring of 63, so 62 records fit.
 abbrev pub small : Geometry
@@ -72,7 +72,7 @@ items =
 pub record Example : Type 0 where
   pub is-fresh : IsFresh (before .collector)
   pub is-on : start .device .on ≡ true
-  pub is-allowed : AllAllowed small start calls
+  pub is-allowed : AllBelong small start calls
   pub is-received : received (logOf small start calls) ≡ items
   pub is-sent : sent (logOf small start calls) ≡ items
-  pub ends-dry : endsDry (logOf small start calls) ≡ true
+  pub ends-dry : endsWithNothingToRead (logOf small start calls) ≡ true

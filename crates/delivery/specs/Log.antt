@@ -46,14 +46,14 @@ toldBy (told.Conf slot) buffer = []
 toldBy (told.Reset slot) buffer = []
 toldBy told.ResetAll buffer = []
 
-abbrev pub heardIn : Answer → List Item
-heardIn (numbered n) = []
-heardIn (valued v) = []
-heardIn (stepped result buffer) = toldBy (result .told) buffer
+abbrev pub receivedIn : Answer → List Item
+receivedIn (numbered n) = []
+receivedIn (valued v) = []
+receivedIn (stepped told buffer) = toldBy told buffer
 
 abbrev pub received : List Entry → List Item
 received [] = []
-received (entry ∷ rest) = heardIn (entry .answered) ++ received rest
+received (entry ∷ rest) = receivedIn (entry .answered) ++ received rest
 
 -- ---- sent: the packets answered 0, each after one gap if one was answered 7 since the last of them, or since switch-on
 
@@ -63,7 +63,7 @@ gapIf refused = cond refused (gap ∷ []) []
 abbrev pub numberIn : Answer → ℕ
 numberIn (numbered n) = n
 numberIn (valued v) = v .answer
-numberIn (stepped result buffer) = answerOf (result .told)
+numberIn (stepped told buffer) = answerOf told
 
 -- `refused`: a packet was refused for room since the one accepted before, or since switch-on.
 abbrev pub sentBy : Bool → Call → ℕ → List Item
@@ -92,17 +92,17 @@ sent log = sentFrom false log
 
 -- ---- the last call was a step that answered 11
 
-abbrev pub isDry : Call → ℕ → Bool
-isDry (read offset width) n = false
-isDry (write offset width value) n = false
-isDry (add slot entry) n = false
-isDry (remove slot) n = false
-isDry (packet slot events) n = false
-isDry step n = eqb n nothingToRead
+abbrev pub isNothingToRead : Call → ℕ → Bool
+isNothingToRead (read offset width) n = false
+isNothingToRead (write offset width value) n = false
+isNothingToRead (add slot entry) n = false
+isNothingToRead (remove slot) n = false
+isNothingToRead (packet slot events) n = false
+isNothingToRead step n = eqb n nothingToRead
 
-abbrev pub endsDryFrom : Bool → List Entry → Bool
-endsDryFrom dry [] = dry
-endsDryFrom dry (entry ∷ rest) = endsDryFrom (isDry (entry .did) (numberIn (entry .answered))) rest
+abbrev pub endsWithNothingToReadFrom : Bool → List Entry → Bool
+endsWithNothingToReadFrom dry [] = dry
+endsWithNothingToReadFrom dry (entry ∷ rest) = endsWithNothingToReadFrom (isNothingToRead (entry .did) (numberIn (entry .answered))) rest
 
-abbrev pub endsDry : List Entry → Bool
-endsDry log = endsDryFrom false log
+abbrev pub endsWithNothingToRead : List Entry → Bool
+endsWithNothingToRead log = endsWithNothingToReadFrom false log

@@ -1,10 +1,10 @@
--- The calls of a host and a guest, and what each does to the states and the pages that the last one left.
+-- Demand 3's calls of a host and a guest, and what each does to the states and the pages that the last one left.
 use Prim.Native.Nat.{ℕ}
 use mathlib.Core.List.{List}
 use lib.ListN.{length}
 use Rattle.geometry.specs.declared.Geometry.{Geometry}
 use Rattle.assembly.specs.Collect.{Collector}
-use Rattle.assembly.specs.declared.Stepped.{Stepped}
+use Rattle.assembly.specs.declared.Told.{Told}
 use Rattle.driver.specs.Step.{stepOf}
 use Rattle.device.specs.declared.Device.{Device}
 use Rattle.device.specs.declared.Outcome.{Outcome}
@@ -30,11 +30,11 @@ pub data Call : Type 0 where
   packet : (slot : ℕ) → (events : List ℕ) → Call
   step : Call
 
--- What a call answers. A step also leaves its packet in the lent buffer.
+-- What a call answers. A step tells something, and leaves its packet in the lent buffer.
 pub data Answer : Type 0 where
   numbered : ℕ → Answer
   valued : Value → Answer
-  stepped : Stepped → (packet : List ℕ) → Answer
+  stepped : Told → (packet : List ℕ) → Answer
 
 pub record Result : Type 0 where
   pub answer : Answer
@@ -68,7 +68,7 @@ call geometry world (packet slot events) =
 call geometry world step =
     let result = stepOf geometry (world .collector .driver) (world .area) (world .collector .packet) in
     record {
-      answer = stepped (result .stepped) (result .packet);
+      answer = stepped (result .stepped .told) (result .packet);
       world = record {
         device = world .device;
         area = result .area;

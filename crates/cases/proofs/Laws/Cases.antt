@@ -12,9 +12,9 @@ use Rattle.device.specs.State.{clientRevRule, currentRule, isDevice}
 use Rattle.device.specs.Call.{isSized, isCall}
 use Rattle.packets.specs.Packet.{allOffered}
 use Rattle.packets.specs.Rule.{packetAnswer, packetOf}
-use Rattle.registers.specs.Access.{accessAnswer}
-use Rattle.registers.specs.Place.{placeIn, placeOf}
-use Rattle.registers.specs.SwitchOn.{takenFrom, switchOn}
+use Rattle.access.specs.Access.{accessAnswer}
+use Rattle.access.specs.Place.{placeIn, placeOf}
+use Rattle.switch_on.specs.SwitchOn.{takenFrom, switchOn}
 use Rattle.registers.specs.Write.{controlOf, writeOf}
 use Rattle.cases.specs.Cases.{Cases}
 

@@ -17,13 +17,13 @@ use Rattle.records.proofs.Laws.Put.{moved-write-pointer}
 use Rattle.records.proofs.Laws.Unread.{moved-keeps}
 use Rattle.device.specs.declared.Device.{Device}
 use Rattle.device.proofs.Laws.Call.{call as known}
-use Rattle.registers.specs.declared.Place.{Place}
-use Rattle.registers.specs.declared.Place.the-variants.{Magic, Rev, Control, EventSize, Npages, Acceleration, Isr, ConfSize, ClientRev, ReadPtr, EventArea, EntryPage, Nothing}
-use Rattle.registers.specs.Place.{placeOf}
+use Rattle.access.specs.declared.Place.{Place}
+use Rattle.access.specs.declared.Place.the-variants.{Magic, Rev, Control, EventSize, Npages, Acceleration, Isr, ConfSize, ClientRev, ReadPtr, EventArea, EntryPage, Nothing}
+use Rattle.access.specs.Place.{placeOf}
 use Rattle.device.specs.Call.{isCall}
-use Rattle.registers.specs.Access.{accessRefusals, accessAnswer}
+use Rattle.access.specs.Access.{accessRefusals, accessAnswer}
 use Rattle.registers.specs.Read.{readOf}
-use Rattle.registers.specs.SwitchOn.{WriteResult}
+use Rattle.switch_on.specs.SwitchOn.{WriteResult}
 use Rattle.registers.specs.Write.{controlOf, clientRevOf, effectOf, writeOf}
 use Rattle.registers.proofs.Laws.Keeps.{write-keeps, write-size}
 use Rattle.delivery.specs.World.{World, read, write, call}

@@ -6,8 +6,8 @@ use Rattle.geometry.specs.declared.Geometry.{Geometry}
 use Rattle.driver.proofs.Laws.Unknown.{same-step, same-copy}
 use Rattle.entries.proofs.Laws.Lookup.{same-lookup}
 use Rattle.delivery.specs.World.{World, Call, read, write, add, remove, packet, step, call}
-use Rattle.delivery.specs.Log.{Item, Entry, logOf, after, heardIn, received, sentFrom, sent, endsDryFrom}
-use Rattle.delivery.specs.Premises.{Allowed, AllAllowed}
+use Rattle.delivery.specs.Log.{Item, Entry, logOf, after, receivedIn, received, sentFrom, sent, endsWithNothingToReadFrom}
+use Rattle.delivery.specs.Premises.{Belongs, AllBelong}
 use Rattle.delivery.specs.Demand3.{NoBadIndex, Delivery, Demand3}
 use Rattle.delivery.proofs.Laws.Invariant.{Invariant, Kept}
 use Rattle.delivery.proofs.Laws.Access.{read-kept, write-kept}
@@ -16,7 +16,7 @@ use Rattle.delivery.proofs.Laws.Packet.{packet-kept}
 use Rattle.delivery.proofs.Laws.Step.{valid, step-kept}
 use Rattle.delivery.proofs.Laws.Start.{start-holds, start-not-lost}
 
-kept : (geometry : Geometry) (world : World) {waiting : List Item} → Invariant geometry world waiting → (next : Call) → Allowed geometry world next
+kept : (geometry : Geometry) (world : World) {waiting : List Item} → Invariant geometry world waiting → (next : Call) → Belongs geometry world next
     → Kept geometry world waiting next (call geometry world next)
 kept geometry world h (read offset width) ok = read-kept geometry world h offset width
 kept geometry world h (write offset width value) ok = write-kept geometry world h offset width value ok
@@ -30,7 +30,7 @@ record Along (geometry : Geometry) (world : World) (waiting : List Item) (calls 
   still : List Item
   invariant : Invariant geometry (after geometry world calls) still
   log : received (logOf geometry world calls) ++ still ≡ waiting ++ sentFrom (world .device .lost) (logOf geometry world calls)
-  dry : (before : Bool) → (before ≡ true → waiting ≡ []) → endsDryFrom before (logOf geometry world calls) ≡ true → still ≡ []
+  dry : (before : Bool) → (before ≡ true → waiting ≡ []) → endsWithNothingToReadFrom before (logOf geometry world calls) ≡ true → still ≡ []
   no-bad-index : NoBadIndex (logOf geometry world calls)
 
 -- the log of a call, then that of the rest
@@ -44,7 +44,7 @@ both-logs waiting heard more still wait new {refused} {lost} log later now same 
     ∙ append-assoc waiting new (sentFrom lost log)
     ∙ ap (λ (b : Bool). waiting ++ (new ++ sentFrom b log)) same
 
-along : (geometry : Geometry) (calls : List Call) (world : World) {waiting : List Item} → Invariant geometry world waiting → AllAllowed geometry world calls
+along : (geometry : Geometry) (calls : List Call) (world : World) {waiting : List Item} → Invariant geometry world waiting → AllBelong geometry world calls
     → Along geometry world waiting calls
 along geometry [] world {waiting} h ok = record {
   still = waiting;
@@ -60,7 +60,7 @@ along geometry (next ∷ rest) world {waiting} h ok =
     record {
       still = a .still;
       invariant = a .invariant;
-      log = both-logs waiting (heardIn (result .answer)) (received (logOf geometry (result .world) rest)) (a .still) (k .still) _ (logOf geometry (result .world) rest) (a .log) (k .log) (k .flag);
+      log = both-logs waiting (receivedIn (result .answer)) (received (logOf geometry (result .world) rest)) (a .still) (k .still) _ (logOf geometry (result .world) rest) (a .log) (k .log) (k .flag);
       dry = λ before none ends. a .dry _ (k .dry) ends;
       no-bad-index = (k .not-ten, a .no-bad-index);
     }
@@ -84,7 +84,7 @@ delivery geometry ok world fresh off offset width value on calls allowed-calls =
 pub demand3 : Demand3
 demand3 = record {
   delivery = delivery;
-  step-unknowing = same-step;
-  copy-out-unknowing = same-copy;
-  lookup-unknowing = same-lookup;
+  step-independent = same-step;
+  copy-out-independent = same-copy;
+  lookup-independent = same-lookup;
 }

@@ -23,14 +23,14 @@ use Rattle.packets.specs.Packet.{allOffered}
 use Rattle.packets.specs.Rule.{packetAnswer, packetOf}
 use Rattle.hotplug.specs.Add.{addAnswer, addOf}
 use Rattle.hotplug.specs.Remove.{removeAnswer, removeOf}
-use Rattle.registers.specs.Access.{accessAnswer}
-use Rattle.registers.specs.Place.{placeIn, placeOf}
-use Rattle.registers.specs.SwitchOn.{takenFrom, switchOn}
+use Rattle.access.specs.Access.{accessAnswer}
+use Rattle.access.specs.Place.{placeIn, placeOf}
+use Rattle.switch_on.specs.SwitchOn.{takenFrom, switchOn}
 use Rattle.registers.specs.Write.{controlOf, writeOf}
 use Rattle.geometry.specs.declared.Geometry.{Geometry}
 use Rattle.delivery.specs.World.{World, Call, add, remove, packet, step, call}
 use Rattle.delivery.specs.Log.{after}
-use Rattle.delivery.specs.Premises.{AllAllowed}
+use Rattle.delivery.specs.Premises.{AllBelong}
 use Rattle.delivery.specs.Example.{small, mouse, start, motions, later, calls, Example}
 
 is-packet : (count value : ℕ) → IsBytes (motions count value)
@@ -47,19 +47,19 @@ is-packet (suc count) value (suc (suc (suc (suc (suc (suc (suc zero))))))) = ome
 is-packet (suc count) value (suc (suc (suc (suc (suc (suc (suc (suc i)))))))) = is-packet count value i
 
 -- steps are always allowed
-steps-then : (geometry : Geometry) (count : ℕ) (world : World) (rest : List Call) → AllAllowed geometry (after geometry world (replicate count step)) rest
-    → AllAllowed geometry world (replicate count step ++ rest)
+steps-then : (geometry : Geometry) (count : ℕ) (world : World) (rest : List Call) → AllBelong geometry (after geometry world (replicate count step)) rest
+    → AllBelong geometry world (replicate count step ++ rest)
 steps-then geometry zero world rest ok = ok
 steps-then geometry (suc count) world rest ok = (tt, steps-then geometry count (call geometry world step .world) rest ok)
 
-steps : (geometry : Geometry) (count : ℕ) (world : World) → AllAllowed geometry world (replicate count step)
+steps : (geometry : Geometry) (count : ℕ) (world : World) → AllBelong geometry world (replicate count step)
 steps geometry zero world = tt
 steps geometry (suc count) world = (tt, steps geometry count (call geometry world step .world))
 
-later-allowed : (world : World) → AllAllowed small world later
+later-allowed : (world : World) → AllBelong small world later
 later-allowed world = (is-packet 1 3, (tt, (tt, (is-packet 2 4, steps small 11 (after small world (packet 4 (motions 1 3) ∷ remove 4 ∷ add 4 mouse ∷ packet 4 (motions 2 4) ∷ []))))))
 
-all-allowed : AllAllowed small start calls
+all-allowed : AllBelong small start calls
 all-allowed =
     let refused : World = after small start (packet 4 (motions 32 1) ∷ packet 4 (motions 32 2) ∷ []) in
     (is-packet 32 1, (is-packet 32 2, steps-then small 37 refused later (later-allowed (after small refused (replicate 37 step)))))

@@ -21,7 +21,7 @@ use Rattle.device.specs.Call.{isCall}
 use Rattle.device.proofs.Laws.Call.{Call, call}
 use Rattle.delivery.specs.World.{World, Result}
 use Rattle.delivery.specs.World as world
-use Rattle.delivery.specs.Log.{Item, heardIn, sentBy, refusedAfter, isDry, numberIn}
+use Rattle.delivery.specs.Log.{Item, receivedIn, sentBy, refusedAfter, isNothingToRead, numberIn}
 use Rattle.delivery.proofs.Laws.Holding.{Holding}
 use Rattle.delivery.proofs.Laws.Runs.{Runs, then}
 
@@ -39,18 +39,18 @@ pub record Invariant (geometry : Geometry) (world : World) (waiting : List Item)
 pub record Kept (geometry : Geometry) (before : World) (waiting : List Item) (next : world.Call) (result : Result) : Type 0 where
   pub still : List Item
   pub invariant : Invariant geometry (result .world) still
-  pub log : heardIn (result .answer) ++ still ≡ waiting ++ sentBy (before .device .lost) next (numberIn (result .answer))
+  pub log : receivedIn (result .answer) ++ still ≡ waiting ++ sentBy (before .device .lost) next (numberIn (result .answer))
   pub flag : result .world .device .lost ≡ refusedAfter (before .device .lost) next (numberIn (result .answer))
-  pub dry : isDry next (numberIn (result .answer)) ≡ true → still ≡ []
+  pub dry : isNothingToRead next (numberIn (result .answer)) ≡ true → still ≡ []
   pub not-ten : numberIn (result .answer) ≡ 10 → ⊥
 
 -- Calls that send nothing.
 pub record Quiet (next : world.Call) : Type 0 where
   pub sends-nothing : (refused : Bool) (number : ℕ) → sentBy refused next number ≡ []
   pub same-flag : (refused : Bool) (number : ℕ) → refusedAfter refused next number ≡ refused
-  pub no-step : (number : ℕ) → isDry next number ≡ false
+  pub no-step : (number : ℕ) → isNothingToRead next number ≡ false
 
-pub quiet-kept : {geometry : Geometry} {before : World} {waiting : List Item} {next : world.Call} {result : Result} → Quiet next → heardIn (result .answer) ≡ []
+pub quiet-kept : {geometry : Geometry} {before : World} {waiting : List Item} {next : world.Call} {result : Result} → Quiet next → receivedIn (result .answer) ≡ []
     → result .world .device .lost ≡ before .device .lost → (numberIn (result .answer) ≡ 10 → ⊥) → Invariant geometry (result .world) waiting
     → Kept geometry before waiting next result
 quiet-kept {before = before} {waiting} {result = result} quiet none same not-ten holds = record {

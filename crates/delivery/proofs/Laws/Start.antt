@@ -28,14 +28,14 @@ use Rattle.assembly.specs.Collect.{Collector}
 use Rattle.driver.specs.Step.{isDriver}
 use Rattle.device.specs.declared.Device.{Device}
 use Rattle.device.proofs.Laws.Call.{Call}
-use Rattle.registers.specs.declared.Place.{Place}
-use Rattle.registers.specs.declared.Place.the-variants.{Magic, Rev, Control, EventSize, Npages, Acceleration, Isr, ConfSize, ClientRev, ReadPtr, EventArea, EntryPage, Nothing}
-use Rattle.registers.specs.Place.{placeOf}
-use Rattle.registers.specs.Access.{accessAnswer}
-use Rattle.registers.specs.SwitchOn.{WriteResult, takenFrom, startRecords, clearedPointers, switchedOn}
+use Rattle.access.specs.declared.Place.{Place}
+use Rattle.access.specs.declared.Place.the-variants.{Magic, Rev, Control, EventSize, Npages, Acceleration, Isr, ConfSize, ClientRev, ReadPtr, EventArea, EntryPage, Nothing}
+use Rattle.access.specs.Place.{placeOf}
+use Rattle.access.specs.Access.{accessAnswer}
+use Rattle.switch_on.specs.SwitchOn.{WriteResult, takenFrom, startRecords, clearedPointers, switchedOn}
 use Rattle.registers.specs.Write.{controlOf, clientRevOf, effectOf, writeOf}
-use Rattle.registers.proofs.Laws.Access.{granted}
-use Rattle.registers.proofs.Laws.SwitchOn.{start-fits, always-starts, start-events-fit}
+use Rattle.access.proofs.Laws.Access.{granted}
+use Rattle.switch_on.proofs.Laws.SwitchOn.{start-fits, always-starts, start-events-fit}
 use Rattle.registers.proofs.Laws.Keeps.{write-keeps, write-size}
 use Rattle.delivery.specs.World.{World, write, call}
 use Rattle.delivery.specs.Premises.{IsFresh}

@@ -37,7 +37,7 @@ use Rattle.delivery.proofs.Laws.Invariant.{Invariant, Kept}
 -- What a step leaves of a world.
 abbrev after : World → Stepped → List ℕ → List ℕ → Result
 after world result area packet = record {
-  answer = stepped result packet;
+  answer = stepped (result .told) packet;
   world = record { device = world .device; area = area; page = world .page; collector = record { driver = result .driver; packet = packet } };
 }
 
