@@ -1,0 +1,3 @@
+pub mod Encode
+pub mod Found
+pub mod Taken

@@ -1,0 +1,251 @@
+// The keyboard ring. Each end keeps its own index, and lends it to its call.
+use answers::DONE;
+use answers::INVALID;
+use answers::MALFORMED;
+use kbdif::IN_CONS;
+use kbdif_decode::Decoded;
+use kbdif_decode::i32_at;
+use kbdif_events::DOWN;
+use kbdif_events::EVENT_LENGTH;
+use kbdif_events::KEY;
+use kbdif_events::MOTION;
+use kbdif_events::MOVE;
+use kbdif_events::MTOUCH;
+use kbdif_events::ORIENT;
+use kbdif_events::POS;
+use kbdif_events::SHAPE;
+use kbdif_events::SYN;
+use kbdif_events::UP;
+use ring_numbers::FoundNumbers;
+use ring_numbers::RingNumbers;
+use ring_numbers::convert::key_numbers;
+use ring_numbers::convert::orient_numbers;
+use ring_numbers::convert::place_numbers;
+use ring_numbers::convert::shape_numbers;
+ghost use mathlib.Core.Path.{_≡_};
+ghost use mathlib.Core.Bool.{_&&_};
+ghost use Prim.Native.Nat.{_≤_};
+ghost use lib.Dec.{eqb, leb, ltb};
+ghost use lib.IntN.{pos};
+ghost use lib.ListN.{length, getD};
+ghost use Rattle.words.specs.Words.{u32At};
+ghost use Rattle.kbdif_events.specs.Event.{eventLength};
+ghost use Rattle.kbdif_decode.specs.Decode.{i32At, i16At, zeroOutside, decoded};
+ghost use Rattle.kbdif.specs.Put.{putOf};
+ghost use Rattle.kbdif.specs.Take.{takeOf};
+ghost use Rattle.ring_numbers.specs.Numbers.{placeNumbers, keyNumbers, shapeNumbers, orientNumbers, foundOf};
+ghost use Rattle.ring_calls.specs.Calls.{encodeAnswer, encodedBytes, decodedOf, checkedNumbers};
+
+#[no_mangle]
+pub extern "C" fn thayarqo_ring_encode(out: &mut [u8], event: RingNumbers) -> u8
+    ensures { λ r. ⌜ (r ≡ encodeAnswer (now (out .entry)) event) × (now (out .exit) ≡ encodedBytes (now (out .entry)) event) ⌝ }
+{
+    if out.len() != EVENT_LENGTH {
+        return INVALID;
+    }
+    let value = ring_numbers::convert::event_of(event);
+    if !kbdif_events::is_known(value) {
+        return MALFORMED;
+    }
+    kbdif_events::encode(out, value);
+    DONE
+}
+
+fn decoded(bytes: &[u8], contact_limit: u32) -> Decoded
+    ensures { λ r. ⌜ r ≡ decodedOf (now (bytes .entry)) «contact_limit» ⌝ }
+{
+    if bytes.len() != EVENT_LENGTH {
+        return Decoded::Refused(INVALID);
+    }
+    if !kbdif::is_contact_limit(contact_limit) {
+        return Decoded::Refused(INVALID);
+    }
+    kbdif_decode::decode(bytes, contact_limit)
+}
+
+#[no_mangle]
+pub extern "C" fn thayarqo_ring_decode(bytes: &[u8], contact_limit: u32) -> FoundNumbers
+    ensures { λ r. ⌜ r ≡ foundOf (decodedOf (now (bytes .entry)) «contact_limit») ⌝ }
+{
+    ring_numbers::found_of(decoded(bytes, contact_limit))
+}
+
+#[no_mangle]
+pub extern "C" fn thayarqo_ring_put(
+    page: &mut [u8],
+    in_prod: &mut u32,
+    contact_limit: u32,
+    event: &[u8],
+) -> u8
+    ensures { λ r. ⌜ (r ≡ putOf (now (page .entry)) (now («in_prod» .entry)) «contact_limit» (now (event .entry)) .result .answer) × (now («in_prod» .exit) ≡ putOf (now (page .entry)) (now («in_prod» .entry)) «contact_limit» (now (event .entry)) .result .«in_prod») × (now (page .exit) ≡ putOf (now (page .entry)) (now («in_prod» .entry)) «contact_limit» (now (event .entry)) .page) ⌝ }
+{
+    let stored = kbdif::put(page, *in_prod, contact_limit, event);
+    *in_prod = stored.in_prod;
+    stored.answer
+}
+
+// ---- A take's event, straight from its bytes to numbers: by way of an event as a value it costs half as much again.
+
+// An event whose reserved bytes are clear, or 9.
+fn checked(clear: bool, event: RingNumbers) -> FoundNumbers
+    ensures { λ r. ⌜ r ≡ checkedNumbers clear event ⌝ }
+{
+    if !clear {
+        return ring_numbers::refused(MALFORMED);
+    }
+    FoundNumbers {
+        answer: DONE,
+        event,
+    }
+}
+
+fn pointer_at(bytes: &[u8], kind: u8) -> FoundNumbers
+    requires { ⌜ length (now bytes) ≡ eventLength ⌝ }
+    ensures { λ r. ⌜ r ≡ checkedNumbers (zeroOutside (now (bytes .entry)) 1 4 16) (placeNumbers kind 0 0 (i32At (now (bytes .entry)) 4) (i32At (now (bytes .entry)) 8) (i32At (now (bytes .entry)) 12)) ⌝ }
+{
+    checked(
+        kbdif_decode::pointer_is_clear(bytes),
+        place_numbers(
+            kind,
+            0,
+            0,
+            i32_at(bytes, 4),
+            i32_at(bytes, 8),
+            i32_at(bytes, 12),
+        ),
+    )
+}
+
+fn key_at(bytes: &[u8]) -> FoundNumbers
+    requires { ⌜ length (now bytes) ≡ eventLength ⌝ }
+    ensures { λ r. ⌜ r ≡ checkedNumbers (zeroOutside (now (bytes .entry)) 2 4 8 && leb (getD (now (bytes .entry)) 1 0) 1) (keyNumbers (eqb (getD (now (bytes .entry)) 1 0) 1) (u32At (now (bytes .entry)) 4)) ⌝ }
+{
+    let pressed = bytes[1];
+    if pressed > 1 {
+        return ring_numbers::refused(MALFORMED);
+    }
+    checked(
+        kbdif_decode::key_is_clear(bytes),
+        key_numbers(pressed == 1, words::read_u32(bytes, 4)),
+    )
+}
+
+fn placed_touch_at(bytes: &[u8], subtype: u8, contact_limit: u32) -> FoundNumbers
+    requires { ⌜ length (now bytes) ≡ eventLength ⌝ }
+    ensures { λ r. ⌜ r ≡ checkedNumbers (zeroOutside (now (bytes .entry)) 3 8 16 && ltb (getD (now (bytes .entry)) 2 0) «contact_limit») (placeNumbers 5 subtype (getD (now (bytes .entry)) 2 0) (i32At (now (bytes .entry)) 8) (i32At (now (bytes .entry)) 12) (pos 0)) ⌝ }
+{
+    let contact = bytes[2];
+    if contact as u32 >= contact_limit {
+        return ring_numbers::refused(MALFORMED);
+    }
+    checked(
+        kbdif_decode::touch_is_clear(bytes),
+        place_numbers(
+            MTOUCH,
+            subtype,
+            contact,
+            i32_at(bytes, 8),
+            i32_at(bytes, 12),
+            0,
+        ),
+    )
+}
+
+fn bare_touch_at(bytes: &[u8], subtype: u8, contact_limit: u32) -> FoundNumbers
+    requires { ⌜ length (now bytes) ≡ eventLength ⌝ }
+    ensures { λ r. ⌜ r ≡ checkedNumbers (zeroOutside (now (bytes .entry)) 3 8 8 && ltb (getD (now (bytes .entry)) 2 0) «contact_limit») (placeNumbers 5 subtype (getD (now (bytes .entry)) 2 0) (pos 0) (pos 0) (pos 0)) ⌝ }
+{
+    let contact = bytes[2];
+    if contact as u32 >= contact_limit {
+        return ring_numbers::refused(MALFORMED);
+    }
+    checked(
+        kbdif_decode::bare_touch_is_clear(bytes),
+        place_numbers(MTOUCH, subtype, contact, 0, 0, 0),
+    )
+}
+
+fn shape_at(bytes: &[u8], contact_limit: u32) -> FoundNumbers
+    requires { ⌜ length (now bytes) ≡ eventLength ⌝ }
+    ensures { λ r. ⌜ r ≡ checkedNumbers (zeroOutside (now (bytes .entry)) 3 8 16 && ltb (getD (now (bytes .entry)) 2 0) «contact_limit») (shapeNumbers (getD (now (bytes .entry)) 2 0) (u32At (now (bytes .entry)) 8) (u32At (now (bytes .entry)) 12)) ⌝ }
+{
+    let contact = bytes[2];
+    if contact as u32 >= contact_limit {
+        return ring_numbers::refused(MALFORMED);
+    }
+    checked(
+        kbdif_decode::touch_is_clear(bytes),
+        shape_numbers(
+            contact,
+            words::read_u32(bytes, 8),
+            words::read_u32(bytes, 12),
+        ),
+    )
+}
+
+fn orientation_at(bytes: &[u8], contact_limit: u32) -> FoundNumbers
+    requires { ⌜ length (now bytes) ≡ eventLength ⌝ }
+    ensures { λ r. ⌜ r ≡ checkedNumbers (zeroOutside (now (bytes .entry)) 3 8 10 && ltb (getD (now (bytes .entry)) 2 0) «contact_limit») (orientNumbers (getD (now (bytes .entry)) 2 0) (i16At (now (bytes .entry)) 8)) ⌝ }
+{
+    let contact = bytes[2];
+    if contact as u32 >= contact_limit {
+        return ring_numbers::refused(MALFORMED);
+    }
+    checked(
+        kbdif_decode::orientation_is_clear(bytes),
+        orient_numbers(contact, signed::i16_from_bits(words::read_u16(bytes, 8))),
+    )
+}
+
+fn touch_at(bytes: &[u8], contact_limit: u32) -> FoundNumbers
+    requires { ⌜ (length (now bytes) ≡ eventLength) × (getD (now bytes) 0 0 ≡ 5) × (1 ≤ «contact_limit») ⌝ }
+    ensures { λ r. ⌜ r ≡ foundOf (decoded (now (bytes .entry)) «contact_limit») ⌝ }
+{
+    let subtype = bytes[1];
+    match subtype {
+        DOWN => placed_touch_at(bytes, DOWN, contact_limit),
+        UP => bare_touch_at(bytes, UP, contact_limit),
+        MOVE => placed_touch_at(bytes, MOVE, contact_limit),
+        SYN => bare_touch_at(bytes, SYN, contact_limit),
+        SHAPE => shape_at(bytes, contact_limit),
+        ORIENT => orientation_at(bytes, contact_limit),
+        _ => ring_numbers::refused(DONE),
+    }
+}
+
+fn found_at(bytes: &[u8], contact_limit: u32) -> FoundNumbers
+    requires { ⌜ (length (now bytes) ≡ eventLength) × (1 ≤ «contact_limit») ⌝ }
+    ensures { λ r. ⌜ r ≡ foundOf (decoded (now (bytes .entry)) «contact_limit») ⌝ }
+{
+    let kind = bytes[0];
+    if kind == MTOUCH {
+        return touch_at(bytes, contact_limit);
+    }
+    match kind {
+        MOTION => pointer_at(bytes, MOTION),
+        KEY => key_at(bytes),
+        POS => pointer_at(bytes, POS),
+        _ => ring_numbers::refused(DONE),
+    }
+}
+
+#[no_mangle]
+pub extern "C" fn thayarqo_ring_take(
+    page: &mut [u8],
+    in_cons: &mut u32,
+    contact_limit: u32,
+) -> FoundNumbers
+    ensures { λ r. ⌜ (r ≡ foundOf (takeOf (now (page .entry)) (now («in_cons» .entry)) «contact_limit» .result .found)) × (now («in_cons» .exit) ≡ takeOf (now (page .entry)) (now («in_cons» .entry)) «contact_limit» .result .«in_cons») × (now (page .exit) ≡ takeOf (now (page .entry)) (now («in_cons» .entry)) «contact_limit» .page) ⌝ }
+{
+    let index = *in_cons;
+    let answer = kbdif::take_refusal(&page[..], index, contact_limit);
+    if answer != DONE {
+        return ring_numbers::refused(answer);
+    }
+    let at = kbdif::event_place(index);
+    // The index moves before the event is read, so that the result isn't held meanwhile.
+    let next = kbdif::next_index(index);
+    words::write_u32(page, IN_CONS, next);
+    *in_cons = next;
+    found_at(&page[at..at + EVENT_LENGTH], contact_limit)
+}
