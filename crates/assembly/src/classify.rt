@@ -3,6 +3,13 @@ use crate::Kind;
 use geometry::Geometry;
 use records::Event;
 use records::codes::ALL_SLOTS;
+use records::codes::DEV_CONF;
+use records::codes::DEV_RESET;
+use records::codes::DEV_SET;
+use records::codes::EV_DEV;
+use records::codes::EV_SYN;
+use records::codes::SYN_DROPPED;
+use records::codes::SYN_REPORT;
 use records::codes::UNKNOWN_SLOT;
 ghost use mathlib.Core.Path.{_≡_};
 ghost use mathlib.Core.Bool.{true};
@@ -13,8 +20,8 @@ fn syn_kind(code: u16) -> Kind
     ensures { λ r. ⌜ r ≡ synKind code ⌝ }
 {
     match code {
-        0 => Kind::SynReport,
-        3 => Kind::SynDropped,
+        SYN_REPORT => Kind::SynReport,
+        SYN_DROPPED => Kind::SynDropped,
         _ => Kind::Other,
     }
 }
@@ -60,9 +67,9 @@ fn dev_kind(geometry: Geometry, code: u16, value: u32) -> Kind
     ensures { λ r. ⌜ r ≡ devKind geometry code value ⌝ }
 {
     match code {
-        1 => dev_set_kind(geometry, value),
-        2 => dev_conf_kind(geometry, value),
-        3 => dev_reset_kind(geometry, value),
+        DEV_SET => dev_set_kind(geometry, value),
+        DEV_CONF => dev_conf_kind(geometry, value),
+        DEV_RESET => dev_reset_kind(geometry, value),
         _ => Kind::BadDev,
     }
 }
@@ -73,8 +80,8 @@ pub(crate) fn kind_of(geometry: Geometry, event: Event) -> Kind
 {
     let kind = event.kind;
     match kind {
-        0 => syn_kind(event.code),
-        6 => dev_kind(geometry, event.code, event.value),
+        EV_SYN => syn_kind(event.code),
+        EV_DEV => dev_kind(geometry, event.code, event.value),
         _ => Kind::Other,
     }
 }

@@ -15,9 +15,13 @@ ghost use Rattle.assembly.specs.Transition.{freshDriver};
 #[repr(C)]
 pub struct Driver {
     pub slot: u32,
+    // How many events of the packet are collected.
     pub held: u32,
+    // It had over 32 events.
     pub overlong: bool,
+    // The slot changed in its middle.
     pub spoiled: bool,
+    // Records were dropped: events up to the next report don't count.
     pub ignoring: bool,
 }
 

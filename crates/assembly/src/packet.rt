@@ -2,7 +2,7 @@
 use crate::Driver;
 use records::Event;
 ghost use mathlib.Core.Path.{_≡_};
-ghost use Prim.Native.Nat.{_≤_, _<_};
+ghost use Prim.Native.Nat.{_≤_};
 ghost use lib.ListN.{length};
 ghost use Rattle.assembly.specs.Collect.{packetLength, collected};
 

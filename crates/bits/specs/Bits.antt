@@ -1,10 +1,13 @@
 -- Numbers as masks of bits, the lowest one bit 0.
 use Prim.Native.Nat.{ℕ, _+_, _-_, _/_, _%_, _^_}
-use mathlib.Core.Bool.{Bool}
+use mathlib.Core.Bool.{Bool, cond}
 use lib.Dec.{eqb}
 
 unfoldable pub bit : ℕ → ℕ → Bool
 bit mask index = eqb (mask / 2 ^ index % 2) 1
+
+abbrev pub bitOf : Bool → ℕ
+bitOf set = cond set 1 0
 
 -- The mask with a bit set that was clear, and with one cleared that was set.
 abbrev pub withBit : ℕ → ℕ → ℕ

@@ -1,9 +1,9 @@
 // Masks of bits.
 ghost use mathlib.Core.Path.{_≡_};
 ghost use mathlib.Core.Bool.{true, false};
-ghost use Prim.Native.Nat.{_^_, _<_};
+ghost use Prim.Native.Nat.{_^_, _<_, _≤_};
 ghost use lib.Dec.{ltb};
-ghost use Rattle.bits.specs.Bits.{bit, withBit, withoutBit};
+ghost use Rattle.bits.specs.Bits.{bit, bitOf, withBit, withoutBit};
 
 // Any index gets an answer: past the mask's width no bit is set.
 pub fn is_set(mask: u64, index: u32) -> bool
@@ -13,6 +13,15 @@ pub fn is_set(mask: u64, index: u32) -> bool
         return false;
     }
     (mask >> index) % 2 == 1
+}
+
+pub fn bit_of(set: bool) -> u32
+    ensures { λ r. ⌜ (r ≡ bitOf set) × (r ≤ 1) ⌝ }
+{
+    if set {
+        return 1;
+    }
+    0
 }
 
 fn power(index: u32) -> u64

@@ -1,6 +1,6 @@
 -- Closing the settings (01, "kbdif ring and nodes"): the modes, and what each needs.
 use Prim.Native.Nat.{ℕ}
-use mathlib.Core.Bool.{Bool, true, false, not, cond, _&&_}
+use mathlib.Core.Bool.{Bool, false, not, cond, _&&_}
 use mathlib.Core.List.{List, [], _∷_}
 use lib.Dec.{leb}
 use Rattle.answers.specs.Answers.{done, badSetting}

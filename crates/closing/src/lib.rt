@@ -9,7 +9,7 @@ ghost use mathlib.Core.Bool.{_&&_};
 ghost use Rattle.closing.specs.Closing.{isAbsolute, isMultiTouch, isRaw, isScaled, hasContacts, lacks, lackTests, firstLack, numberOf, notClosed, closeSettings};
 
 // The first number that is needed and wasn't given as it has to be.
-pub enum Lack {
+enum Lack {
     Nothing,
     Of(NumberName),
 }

@@ -1,6 +1,6 @@
 -- The device's state and its rules (01, "Registers", "State rules").
 use Prim.Native.Nat.{ℕ, _^_}
-use mathlib.Core.Bool.{Bool, true, false, not, _&&_, _||_}
+use mathlib.Core.Bool.{Bool, false, not, _&&_, _||_}
 use lib.Dec.{ltb, eqb}
 use Rattle.bits.specs.Bits.{bit}
 use Rattle.geometry.specs.declared.Geometry.{Geometry}

@@ -20,10 +20,14 @@ pub struct Device {
     pub on: bool,
     pub interrupts: bool,
     pub isr: bool,
+    // The lost mark: a packet was refused since the last one that was put.
     pub lost: bool,
+    // CLIENT_REV was written while off.
     pub client_rev_written: bool,
     pub client_rev: u32,
+    // The private write index. WRITE_PTR in the area is a copy for the guest.
     pub write_index: u32,
+    // The slot of the packet that was put last.
     pub current_slot: u32,
     pub taken: u64,
 }

@@ -1,7 +1,7 @@
 -- The sizes of a device (01, "Geometry"): event pages n, record size E, entry size S, and what follows from them.
 use Prim.Native.Nat.{ℕ, _+_, _-_, _*_, _/_, _%_}
 use mathlib.Core.Bool.{Bool, _&&_, _||_}
-use lib.Dec.{leb, ltb, eqb}
+use lib.Dec.{leb, eqb}
 use Rattle.geometry.specs.declared.Geometry.{Geometry}
 use Rattle.geometry.specs.declared.Ring.{Ring}
 

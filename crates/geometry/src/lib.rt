@@ -6,7 +6,7 @@ ghost use Prim.Native.Nat.{_-_, _*_, _/_, _≤_, _<_};
 ghost use lib.Dec.{ltb};
 ghost use lib.ListN.{getD};
 ghost use Rattle.geometry.specs.SlotWords.{slotWords};
-ghost use Rattle.geometry.specs.Geometry.{isRecordSize, isEntrySize, allowed, areaLength, barLength, ringLength, ringOf, recordPlace, slotCount, entryPlace};
+ghost use Rattle.geometry.specs.Geometry.{isRecordSize, isEntrySize, allowed, areaLength, barLength, ringOf, recordPlace, slotCount, entryPlace};
 
 pub const PAGE_LENGTH: usize = 4096;
 

@@ -11,7 +11,7 @@ ghost use Rattle.nodes.specs.Settings.{freshSettings, withFlag, withNumb
 ghost use Rattle.nodes.specs.Nodes.{readFlag, afterFlag, afterNumber, readNode};
 
 // What a flag's text says.
-pub enum Flag {
+enum Flag {
     Value(bool),
     // The place of the first byte that spoils the text.
     Bad(usize),

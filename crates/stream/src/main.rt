@@ -184,12 +184,21 @@ fn say_line(text: &[u8], goes_on: bool) -> bool {
     goes_on
 }
 
+// A malformed record is consumed, so there may be more to read.
+fn say_refused(number: u8) -> bool {
+    if number == answers::NOTHING_TO_READ {
+        return say_line(b"nothing to read\n", false);
+    }
+    print_number(b"refused ", number as u32);
+    say_line(b"\n", number == answers::MALFORMED)
+}
+
 // Prints what a step tells, and answers whether there is more to read.
 fn say_told(told: Told, packet: &[u8]) -> bool
     requires { ⌜ length (now packet) ≡ 256 ⌝ }
 {
     match told {
-        Told::Refused(number) => say_line(b"nothing to read\n", number != answers::NOTHING_TO_READ),
+        Told::Refused(number) => say_refused(number),
         Told::Nothing => true,
         Told::Gap => say_line(b"gap\n", true),
         Told::EmptyReport => say_line(b"empty report\n", true),

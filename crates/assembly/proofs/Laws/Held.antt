@@ -8,6 +8,7 @@ use lib.Dec.{eqb}
 use borrow.Author.Tests.{le-leb, lt-leb}
 use Rattle.geometry.specs.declared.Geometry.{Geometry}
 use Rattle.records.specs.declared.Event.{Event}
+use Rattle.records.specs.Codes.{noSlot}
 use Rattle.assembly.specs.declared.Driver.{Driver}
 use Rattle.assembly.specs.declared.Kind.{Kind}
 use Rattle.assembly.specs.declared.Kind.the-variants as kind
@@ -27,7 +28,7 @@ unfolding withoutSlot
 without-held slot driver = go (eqb (driver .slot) slot) refl
   where
     go : (test : Bool) → eqb (driver .slot) slot ≡ test → withoutSlot slot driver .held ≡ driver .held
-    go true e = rw e (moved-held 4294967294 driver)
+    go true e = rw e (moved-held noSlot driver)
     go false e = rw e
 
 joined-held : (driver : Driver) → driver .held ≤ 32 → joined driver .held ≤ 32
@@ -45,8 +46,8 @@ kind-held kind.SynDropped event driver few = omega arith
 kind-held kind.DevSet event driver few = omega (arith, moved-held (event .value) driver)
 kind-held kind.DevConf event driver few = few
 kind-held kind.DevReset event driver few = omega (arith, without-held (event .value) driver)
-kind-held kind.DevResetAll event driver few = omega (arith, moved-held 4294967294 driver)
-kind-held kind.BadDevSet event driver few = omega (arith, moved-held 4294967294 driver)
+kind-held kind.DevResetAll event driver few = omega (arith, moved-held noSlot driver)
+kind-held kind.BadDevSet event driver few = omega (arith, moved-held noSlot driver)
 kind-held kind.BadDev event driver few = few
 kind-held kind.Other event driver few = joined-held driver few
 

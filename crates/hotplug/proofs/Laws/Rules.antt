@@ -16,7 +16,7 @@ use Rattle.records.proofs.Laws.PutAll.{after-inside}
 use Rattle.device.specs.declared.Device.{Device}
 use Rattle.device.specs.State.{clientRevRule, currentRule, isDevice, isTaken}
 use Rattle.device.proofs.Laws.Call.{Rules}
-use Rattle.hotplug.specs.State.{withTaken, afterAdd, currentWithout, afterRemove, HotplugResult, unlessRefused}
+use Rattle.hotplug.specs.State.{withTaken, afterAdd, afterRemove, HotplugResult, unlessRefused}
 use Rattle.hotplug.specs.Add.{addRecords, addOf}
 use Rattle.hotplug.specs.Remove.{removeRecords, removeOf}
 use Rattle.hotplug.proofs.Laws.Accepted.{add-accepted, remove-accepted}

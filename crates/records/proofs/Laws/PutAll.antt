@@ -1,9 +1,8 @@
 -- Several records put one after the other: what they leave, and that they are appended to the unread ones.
-use Prim.Native.Nat.{ℕ, suc, _+_, _%_, _<_}
+use Prim.Native.Nat.{ℕ, _+_, _<_}
 use mathlib.Core.Path.{_≡_, refl, sym, ap, _∙_}
 use mathlib.Core.List.{List, [], _∷_, _++_, append-assoc, append-nil}
 use native.Mathlib.Omega.{arith}
-use native.Mathlib.Nat.{mod-eq-of-lt, mod-add-mod, add-zero}
 use lib.ListN.{length}
 use Rattle.geometry.specs.declared.Ring.{Ring}
 use Rattle.records.specs.Event.{AllFit}
@@ -43,14 +42,6 @@ module _ (ring : Ring) where
     ends = other .ends ∙ rw (after-append index first second, one .ends);
     holds = other .holds ∙ rw (puts-append index first second before, one .holds, one .ends);
   }
-
-  -- the index after so many records
-  pub after-count : (index : ℕ) (events : List Event) → index < ring .length → indexAfter ring index events ≡ (index + length events) % ring .length
-  unfolding indexAfter
-  after-count index [] h = rw add-zero (sym (mod-eq-of-lt h))
-  after-count index (event ∷ rest) h =
-      let sum : index + 1 + length rest ≡ index + suc (length rest) = omega arith in
-      after-count (nextIndex ring index) rest (next-inside ring index h) ∙ mod-add-mod (index + 1) (ring .length) (length rest) ∙ rw sum
 
   pub after-inside : (index : ℕ) (events : List Event) → index < ring .length → indexAfter ring index events < ring .length
   unfolding indexAfter

@@ -12,7 +12,7 @@ use Rattle.words.proofs.Laws.Word.{agree-u32, agree-stretch}
 use Rattle.geometry.specs.declared.Ring.{Ring}
 use Rattle.geometry.specs.Geometry.{recordPlace}
 use Rattle.records.specs.Ring.{Holds, readPointer, writePointer, withReadPointer}
-use Rattle.records.specs.Unread.{recordAt, recordsFrom, SameToDriver}
+use Rattle.records.specs.Unread.{recordAt, SameToDriver}
 use Rattle.records.proofs.Laws.Event.{agree-event}
 use Rattle.records.proofs.Laws.Place.{place-low, place-inside}
 use Rattle.records.proofs.Laws.Put.{moved-length, moved-elsewhere}
@@ -28,9 +28,6 @@ module _ (ring : Ring) (left right : List ℕ) (same : SameToDriver ring left ri
   pub same-record : 0 < ring .length → (index : ℕ) → recordAt ring left index ≡ recordAt ring right index
   same-record some index =
       agree-event left right (recordPlace ring (index % ring .length)) (same .same-records (index % ring .length) (mod-lt index some))
-
-  pub same-unread : 0 < ring .length → (index count : ℕ) → recordsFrom ring left index count ≡ recordsFrom ring right index count
-  same-unread some index count = Rattle.records.proofs.Laws.Unread.same-records ring left right (same-record some) index count
 
   -- the first eight bytes of a record
   pub same-bytes : Holds (length left) ring → 0 < ring .length → (index : ℕ)

@@ -9,44 +9,34 @@ use borrow.Author.Needs.{needs}
 use Rattle.assembly.proofs.packet.collect.Statement.{statement}
 use Rattle.assembly.proofs.packet.collect.Tie as tie
 
--- src/packet.rt:18:9
 returns : tie.Need-returns
 unfolding collected
 returns c = rw (le-ltb _ _ (c .if1 .taken))
 
--- src/packet.rt:20:14
 cast-at : tie.Need-cast-at
 cast-at c = search needs
 
--- src/packet.rt:20:14
 mul-at : tie.Need-mul-at
 mul-at c = search needs
 
--- src/packet.rt:21:37
 add-encode : tie.Need-add-encode
 add-encode c = search needs
 
--- src/packet.rt:21:21
 sub-encode : tie.Need-sub-encode
 sub-encode c = search needs
 
--- src/packet.rt:21:21
 part-encode-start : tie.Need-part-encode-start
 part-encode-start c = search needs
 
--- src/packet.rt:21:21
 part-encode-end : tie.Need-part-encode-end
 part-encode-end c = search needs
 
--- src/packet.rt:21:5
 encode-requires : tie.Need-encode-requires
 encode-requires c κs = search needs
 
--- src/packet.rt:13:1
 same-length : tie.Need-same-length
 same-length c = search needs
 
--- src/packet.rt:13:1
 returns-2 : tie.Need-returns-2
 unfolding collected
 returns-2 c =
