@@ -12,7 +12,7 @@ ok() { # NAME
     printf 'ok %s\n' "$1"
 }
 
-# Shows standard input below, indented so that none of it counts as a case.
+# Shows standard input below, indented so that none of it counts as a case. At the end of a pipe it would set no status.
 not_ok() { # NAME WHY
     printf 'not ok %s: %s\n' "$1" "$2"
     sed 's/^/    /'
