@@ -30,6 +30,24 @@ pub struct Delivery {
     pub broken: Option<String>,
 }
 
+impl Delivery {
+    /// Whether every promise was kept, and each had its turn.
+    pub fn is_good(&self) -> bool {
+        self.broken.is_none() && self.never_seen().is_none()
+    }
+
+    /// What never happened: a library that refuses everything breaks no promise of what is received.
+    fn never_seen(&self) -> Option<&'static str> {
+        let seen = [
+            (self.packets, "no packet was received"),
+            (self.gaps, "no gap was received"),
+            (self.dry, "there was always something to read"),
+            (self.ring_events, "no ring event was taken"),
+        ];
+        seen.into_iter().find(|(count, _)| *count == 0).map(|(_, what)| what)
+    }
+}
+
 impl fmt::Display for Delivery {
     fn fmt(&self, to: &mut fmt::Formatter) -> fmt::Result {
         let Delivery {
@@ -47,9 +65,10 @@ impl fmt::Display for Delivery {
             to,
             "  received {packets} packets and {gaps} gaps, nothing to read {dry} times; taken {ring_events} ring events"
         )?;
-        match broken {
-            Some(why) => write!(to, "a promise is broken: {why}"),
-            None => write!(to, "every list is delivered"),
+        match (broken, self.never_seen()) {
+            (Some(why), _) => write!(to, "a promise is broken: {why}"),
+            (None, Some(what)) => write!(to, "the lists show too little: {what}"),
+            (None, None) => write!(to, "every list is delivered"),
         }
     }
 }
@@ -180,5 +199,54 @@ fn check_answer(call: &Call, answer: &Answer, geometry: Geometry) -> Result<(), 
         BAD_INDEX => Err(format!("{call} answers 10")),
         INVALID if !wrong_length => Err(format!("{call} answers 1")),
         _ => Ok(()),
+    }
+}
+
+#[cfg(test)]
+mod tests {
+    use super::*;
+    use thayarqo_model::answer::MALFORMED;
+    use thayarqo_model::Model;
+
+    /// Does what the model does, but refuses some of the calls.
+    struct Refusing(fn(&Call) -> bool);
+
+    impl Core for Refusing {
+        fn call(&self, world: &mut World, call: &Call) -> Answer {
+            match self.0(call) {
+                true => Answer::Number(MALFORMED),
+                false => Model::default().call(world, call),
+            }
+        }
+    }
+
+    fn outcome(refuses: fn(&Call) -> bool) -> Delivery {
+        let delivery = run(&Refusing(refuses), 1, 100_000);
+        assert!(delivery.calls > 0);
+        delivery
+    }
+
+    #[test]
+    fn refused_packets_break_no_promise_and_show_too_little() {
+        let delivery = outcome(|call| matches!(call, Call::PutPacket { .. }));
+        assert!(delivery.broken.is_none() && !delivery.is_good(), "{delivery}");
+    }
+
+    #[test]
+    fn refused_ring_events_break_a_promise() {
+        let delivery = outcome(|call| matches!(call, Call::RingPut { .. }));
+        assert!(delivery.broken.is_some() && !delivery.is_good(), "{delivery}");
+    }
+
+    #[test]
+    fn a_run_that_is_too_short_shows_too_little() {
+        let delivery = run(&Model::default(), 1, 1);
+        assert!(delivery.broken.is_none() && !delivery.is_good(), "{delivery}");
+    }
+
+    #[test]
+    fn the_model_delivers() {
+        let delivery = outcome(|_| false);
+        assert!(delivery.is_good(), "{delivery}");
     }
 }

@@ -1,5 +1,6 @@
 //! Random lists of calls, made on the proved library and on the model. Answers, states and every byte of every buffer are compared
 //! after each call. A second run holds the library to what it promises of whole lists: see [`delivery`].
+#![forbid(unsafe_code)]
 
 mod call;
 mod convert;

@@ -6,35 +6,26 @@ use crate::convert::{
     to_settings,
 };
 use crate::world::World;
+use std::hint::black_box;
 use thayarqo_model::access::Value;
 use thayarqo_model::answer::DONE;
 use thayarqo_model::guest::Copied;
-use thayarqo_model::ring_event::RingNumbers;
-use thayarqo_sys as sys;
+use thayarqo_sys::{self as sys, safe};
 
 pub struct Library;
 
-// Each call is given a state of its own and parts of buffers with their lengths: all of them live through the call, and don't overlap.
 impl Core for Library {
     fn call(&self, world: &mut World, call: &Call) -> Answer {
         match call {
-            Call::FreshDevice => world.device = device_of(unsafe { sys::thayarqo_fresh_device() }),
-            Call::FreshDriver => world.driver = driver_of(unsafe { sys::thayarqo_fresh_driver() }),
-            Call::FreshSettings => {
-                world.settings = settings_of(unsafe { sys::thayarqo_fresh_settings() });
-            }
+            Call::FreshDevice => world.device = device_of(safe::fresh_device()),
+            Call::FreshDriver => world.driver = driver_of(safe::fresh_driver()),
+            Call::FreshSettings => world.settings = settings_of(safe::fresh_settings()),
             Call::Read { offset, width } => return read(world, *offset, *width),
-            Call::Step => return step(world),
-            Call::CopyOut { limit, out_length } => return copy_out(world, *limit, *out_length),
-            Call::Lookup { slot, out_length } => return lookup(world, *slot, *out_length),
+            Call::Step | Call::CopyOut { .. } | Call::Lookup { .. } => return guest_call(world, call),
             Call::Node { name, value } => return node(world, name, value),
-            Call::RingEncode { event, out_length } => return ring_encode(world, event, *out_length),
-            Call::RingDecode { bytes, limit } => return ring_decode(world, bytes, *limit),
-            Call::RingPut { event, limit } => return ring_put(world, event, *limit),
-            Call::RingTake { limit } => return ring_take(world, *limit),
-            Call::Close => {
-                let settings = to_settings(&world.settings);
-                return Answer::Closed(closed_of(unsafe { sys::thayarqo_close(settings) }));
+            Call::Close => return Answer::Closed(closed_of(safe::close(to_settings(&world.settings)))),
+            Call::RingEncode { .. } | Call::RingDecode { .. } | Call::RingPut { .. } | Call::RingTake { .. } => {
+                return ring_call(world, call);
             }
             _ => return change_device(world, call),
         }
@@ -42,126 +33,58 @@ impl Core for Library {
     }
 }
 
-/// The library might write what it is lent to read: it is compared all the same.
+/// A wrong library might write the state that it is lent to read, so it is compared all the same: the black box keeps the compiler
+/// from taking it for unchanged.
 fn read(world: &mut World, offset: u64, width: u32) -> Answer {
-    let mut device = to_device(&world.device);
+    let device = to_device(&world.device);
     let (area, page) = (world.area.bytes(), world.page.bytes());
-    let sys::Value { answer, value } = unsafe {
-        sys::thayarqo_read(
-            &raw mut device,
-            to_geometry(world.geometry),
-            area.as_ptr(),
-            area.len(),
-            page.as_ptr(),
-            page.len(),
-            offset,
-            width,
-        )
-    };
+    let geometry = to_geometry(world.geometry);
+    let sys::Value { answer, value } = safe::read(black_box(&device), geometry, area, page, offset, width);
     world.device = device_of(device);
     Answer::Value(Value { answer, value })
 }
 
 /// The calls that change the device's state.
 fn change_device(world: &mut World, call: &Call) -> Answer {
+    let geometry = to_geometry(world.geometry);
     let mut device = to_device(&world.device);
+    let (area, page) = (world.area.lend(), world.page.lend());
     let answer = match call {
-        Call::Write { offset, width, value } => write(world, &mut device, *offset, *width, *value),
-        Call::PutPacket { slot, packet } => put_packet(world, &mut device, *slot, packet),
-        Call::Add { slot, entry } => add(world, &mut device, *slot, entry),
-        Call::Remove { slot } => remove(world, &mut device, *slot),
-        other => unreachable!("{other} is no call of the device"),
+        Call::Write { offset, width, value } => safe::write(&mut device, geometry, area, page, *offset, *width, *value),
+        Call::PutPacket { slot, packet } => {
+            world.input.load(packet);
+            safe::put_packet(&mut device, geometry, area, page, *slot, world.input.bytes())
+        }
+        Call::Add { slot, entry } => {
+            world.input.load(entry);
+            safe::add(&mut device, geometry, area, page, *slot, world.input.bytes())
+        }
+        Call::Remove { slot } => safe::remove(&mut device, geometry, area, page, *slot),
+        other => unreachable!("{other} is no call that changes the device"),
     };
     world.device = device_of(device);
     Answer::Number(answer)
 }
 
-fn write(world: &mut World, device: &mut sys::Device, offset: u64, width: u32, value: u32) -> u8 {
+fn guest_call(world: &mut World, call: &Call) -> Answer {
     let geometry = to_geometry(world.geometry);
-    let (area, page) = (world.area.lend(), world.page.bytes());
-    unsafe {
-        sys::thayarqo_write(
-            device,
-            geometry,
-            area.as_mut_ptr(),
-            area.len(),
-            page.as_ptr(),
-            page.len(),
-            offset,
-            width,
-            value,
-        )
+    match call {
+        Call::CopyOut { limit, out_length } => {
+            world.out.set_length(*out_length);
+            let sys::Copied { answer, count } = safe::copy_out(geometry, world.area.lend(), *limit, world.out.lend());
+            Answer::Copied(Copied { answer, count })
+        }
+        Call::Lookup { slot, out_length } => {
+            world.out.set_length(*out_length);
+            Answer::Number(safe::lookup(geometry, world.page.bytes(), *slot, world.out.lend()))
+        }
+        _ => step(world, geometry),
     }
 }
 
-fn put_packet(world: &mut World, device: &mut sys::Device, slot: u32, packet: &[u8]) -> u8 {
-    let geometry = to_geometry(world.geometry);
-    world.input.load(packet);
-    let (area, page, packet) = (world.area.lend(), world.page.bytes(), world.input.bytes());
-    unsafe {
-        sys::thayarqo_put_packet(
-            device,
-            geometry,
-            area.as_mut_ptr(),
-            area.len(),
-            page.as_ptr(),
-            page.len(),
-            slot,
-            packet.as_ptr().cast(),
-            packet.len(),
-        )
-    }
-}
-
-fn add(world: &mut World, device: &mut sys::Device, slot: u32, entry: &[u8]) -> u8 {
-    let geometry = to_geometry(world.geometry);
-    world.input.load(entry);
-    let (area, page, entry) = (world.area.lend(), world.page.lend(), world.input.bytes());
-    unsafe {
-        sys::thayarqo_add(
-            device,
-            geometry,
-            area.as_mut_ptr(),
-            area.len(),
-            page.as_mut_ptr(),
-            page.len(),
-            slot,
-            entry.as_ptr(),
-            entry.len(),
-        )
-    }
-}
-
-fn remove(world: &mut World, device: &mut sys::Device, slot: u32) -> u8 {
-    let geometry = to_geometry(world.geometry);
-    let (area, page) = (world.area.lend(), world.page.lend());
-    unsafe {
-        sys::thayarqo_remove(
-            device,
-            geometry,
-            area.as_mut_ptr(),
-            area.len(),
-            page.as_mut_ptr(),
-            page.len(),
-            slot,
-        )
-    }
-}
-
-fn step(world: &mut World) -> Answer {
-    let geometry = to_geometry(world.geometry);
+fn step(world: &mut World, geometry: sys::Geometry) -> Answer {
     let mut driver = to_driver(&world.driver);
-    let (area, packet) = (world.area.lend(), world.packet.lend());
-    let told = unsafe {
-        sys::thayarqo_step(
-            &mut driver,
-            geometry,
-            area.as_mut_ptr(),
-            area.len(),
-            packet.as_mut_ptr().cast(),
-            packet.len(),
-        )
-    };
+    let told = safe::step(&mut driver, geometry, world.area.lend(), world.packet.lend());
     world.driver = driver_of(driver);
     Answer::Told(Told {
         answer: told.answer,
@@ -171,74 +94,31 @@ fn step(world: &mut World) -> Answer {
     })
 }
 
-fn copy_out(world: &mut World, limit: u32, out_length: usize) -> Answer {
-    let geometry = to_geometry(world.geometry);
-    world.out.set_length(out_length);
-    let (area, out) = (world.area.lend(), world.out.lend());
-    let sys::Copied { answer, count } = unsafe {
-        sys::thayarqo_copy_out(
-            geometry,
-            area.as_mut_ptr(),
-            area.len(),
-            limit,
-            out.as_mut_ptr(),
-            out.len(),
-        )
-    };
-    Answer::Copied(Copied { answer, count })
-}
-
-fn lookup(world: &mut World, slot: u32, out_length: usize) -> Answer {
-    let geometry = to_geometry(world.geometry);
-    world.out.set_length(out_length);
-    let (page, out) = (world.page.bytes(), world.out.lend());
-    Answer::Number(unsafe {
-        sys::thayarqo_lookup(geometry, page.as_ptr(), page.len(), slot, out.as_mut_ptr(), out.len())
-    })
-}
-
 fn node(world: &mut World, name: &[u8], value: &[u8]) -> Answer {
     world.input.load(name);
     world.text.load(value);
     let mut settings = to_settings(&world.settings);
-    let (name, value) = (world.input.bytes(), world.text.bytes());
-    let answer = unsafe { sys::thayarqo_node(&mut settings, name.as_ptr(), name.len(), value.as_ptr(), value.len()) };
+    let answer = safe::node(&mut settings, world.input.bytes(), world.text.bytes());
     world.settings = settings_of(settings);
     Answer::Number(answer)
 }
 
-fn ring_encode(world: &mut World, event: &RingNumbers, out_length: usize) -> Answer {
-    world.out.set_length(out_length);
-    let out = world.out.lend();
-    Answer::Number(unsafe { sys::thayarqo_ring_encode(out.as_mut_ptr(), out.len(), to_ring_event(event)) })
-}
-
-fn ring_decode(world: &mut World, bytes: &[u8], limit: u32) -> Answer {
-    world.input.load(bytes);
-    let bytes = world.input.bytes();
-    Answer::Taken(taken_of(unsafe {
-        sys::thayarqo_ring_decode(bytes.as_ptr(), bytes.len(), limit)
-    }))
-}
-
-fn ring_put(world: &mut World, event: &[u8], limit: u32) -> Answer {
-    world.input.load(event);
-    let (page, event) = (world.ring_page.lend(), world.input.bytes());
-    Answer::Number(unsafe {
-        sys::thayarqo_ring_put(
-            page.as_mut_ptr(),
-            page.len(),
-            &mut world.in_prod,
-            limit,
-            event.as_ptr(),
-            event.len(),
-        )
-    })
-}
-
-fn ring_take(world: &mut World, limit: u32) -> Answer {
+fn ring_call(world: &mut World, call: &Call) -> Answer {
     let page = world.ring_page.lend();
-    Answer::Taken(taken_of(unsafe {
-        sys::thayarqo_ring_take(page.as_mut_ptr(), page.len(), &mut world.in_cons, limit)
-    }))
+    match call {
+        Call::RingEncode { event, out_length } => {
+            world.out.set_length(*out_length);
+            Answer::Number(safe::ring_encode(world.out.lend(), to_ring_event(event)))
+        }
+        Call::RingDecode { bytes, limit } => {
+            world.input.load(bytes);
+            Answer::Taken(taken_of(safe::ring_decode(world.input.bytes(), *limit)))
+        }
+        Call::RingPut { event, limit } => {
+            world.input.load(event);
+            Answer::Number(safe::ring_put(page, &mut world.in_prod, *limit, world.input.bytes()))
+        }
+        Call::RingTake { limit } => Answer::Taken(taken_of(safe::ring_take(page, &mut world.in_cons, *limit))),
+        other => unreachable!("{other} is no call of the ring"),
+    }
 }

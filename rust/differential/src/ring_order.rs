@@ -6,10 +6,12 @@ use crate::generate::event_bytes;
 use crate::random::Random;
 use crate::world::World;
 use std::collections::VecDeque;
-use thayarqo_model::answer::{BAD_INDEX, DONE, NOTHING_TO_READ, NO_ROOM};
+use thayarqo_model::answer::{DONE, MALFORMED, NOTHING_TO_READ, NO_ROOM};
 use thayarqo_model::geometry::{Geometry, PAGE};
 use thayarqo_model::ring::RING_PLACES;
+use thayarqo_model::ring_event::Taken;
 use thayarqo_model::Model;
+use thayarqo_sys::RING_UNKNOWN;
 
 const CALLS: u32 = 600;
 
@@ -45,26 +47,35 @@ pub fn run_list(core: &dyn Core, random: &mut Random, geometry: Geometry) -> Res
 
 /// Holds an answer against the events that wait. How many were taken.
 fn note(waiting: &mut VecDeque<Vec<u8>>, call: Call, answer: &Answer, limit: u32) -> Result<u64, String> {
-    let full = waiting.len() == RING_PLACES as usize;
-    match (call, answer.number()) {
-        (Call::RingPut { event, .. }, DONE) => {
-            waiting.push_back(event);
+    match call {
+        Call::RingPut { event, .. } => {
+            let expected = expected_of_put(&event, limit, waiting.len());
+            if answer.number() != expected {
+                return Err(format!("a put of {event:?} answers {answer:?}, and not {expected}"));
+            }
+            if expected == DONE {
+                waiting.push_back(event);
+            }
             Ok(0)
         }
-        (Call::RingPut { .. }, NO_ROOM) if full => Ok(0),
-        (Call::RingPut { .. }, number) if number != NO_ROOM && number != BAD_INDEX => Ok(0),
-        (Call::RingTake { .. }, NOTHING_TO_READ) if waiting.is_empty() => Ok(0),
-        (Call::RingTake { .. }, DONE) => {
-            let put = waiting.pop_front().unwrap_or_default();
-            let expected = Answer::Taken(Model::default().decode(&put, limit));
-            match *answer == expected {
-                true => Ok(1),
-                false => Err(format!("put {expected:?}, and took {answer:?}")),
+        _ => {
+            let put = waiting.pop_front();
+            let expected = put.as_ref().map(|event| Model::default().decode(event, limit));
+            match (expected, answer) {
+                (Some(expected), Answer::Taken(taken)) if *taken == expected => Ok(1),
+                (None, answer) if answer.number() == NOTHING_TO_READ => Ok(0),
+                _ => Err(format!("put {put:?}, and a take answers {answer:?}")),
             }
         }
-        (call, number) => Err(format!(
-            "{call} answers {number} with {} events that wait",
-            waiting.len()
-        )),
+    }
+}
+
+/// Only a known and well-formed event is put, and only while there is room.
+fn expected_of_put(event: &[u8], limit: u32, waiting: usize) -> u8 {
+    let Taken { answer, event } = Model::default().decode(event, limit);
+    match answer {
+        DONE if event.kind == RING_UNKNOWN => MALFORMED,
+        DONE if waiting == RING_PLACES as usize => NO_ROOM,
+        answer => answer,
     }
 }

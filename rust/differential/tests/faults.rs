@@ -68,8 +68,4 @@ fn half_a_packet_breaks_a_promise_of_lists() {
         fault: Fault::PacketEventByEvent,
     };
     assert!(delivery::run(&half, SEED, CALLS).broken.is_some());
-    let right = delivery::run(&Model::default(), SEED, 100_000);
-    assert!(right.broken.is_none(), "{right}");
-    assert!(right.packets > 0 && right.gaps > 0 && right.dry > 0, "{right}");
-    assert!(right.ring_events > 0, "{right}");
 }

@@ -37,17 +37,6 @@ pub enum Fault {
     ButtonBitsFromZero,
 }
 
-impl Fault {
-    /// Every wrong build.
-    pub const ALL: [Fault; 5] = [
-        Fault::UnreadWithoutModulus,
-        Fault::EntriesSteppedAt68,
-        Fault::PacketEventByEvent,
-        Fault::ResetAllAsMinusOne,
-        Fault::ButtonBitsFromZero,
-    ];
-}
-
 /// The rules of the papers, or one of the wrong builds. Every call is a method of it.
 #[derive(Clone, Copy, Debug, Default)]
 pub struct Model {

@@ -69,6 +69,7 @@ fn offered(entry: &Entry, kind: u16) -> impl Iterator<Item = String> + '_ {
 mod tests {
     use super::*;
     use thayarqo::codes::{ABS_X, BTN_TOUCH};
+    use thayarqo::Answer;
 
     #[test]
     fn packets_are_told_by_their_source() {
@@ -95,9 +96,10 @@ mod tests {
     }
 
     #[test]
-    fn an_entry_tells_its_offer() {
-        let pad = Entry::new("pad").offer_rel().offer_abs(ABS_X).offer_key(0x15F);
+    fn an_entry_tells_its_offer() -> Answer<()> {
+        let pad = Entry::new("pad").offer_rel().offer_abs(ABS_X)?.offer_key(0x15F)?;
         assert_eq!(entry(&pad), "entry pad offers REL, ABS_X, 1:351");
         assert_eq!(entry(&Entry::new("\u{7f}")), "entry \\x7f offers nothing");
+        Ok(())
     }
 }

@@ -3,7 +3,7 @@ use crate::forms::{FORMS, MOST_TIMES};
 use crate::names::REGISTERS;
 use thayarqo::codes::{code_name, EV_ABS, EV_DEV, EV_KEY, EV_REL, EV_SYN};
 
-pub const USAGE: &str = "usage: thayarqo-replay [FILE]";
+pub const USAGE: &str = "usage: thayarqo-replay [--help | FILE]";
 
 const HEAD: &str = "\
 Runs a script of calls of a host and its guest on the proved library, from a file or from standard
@@ -20,7 +20,8 @@ signed. A COUNT is at most";
 
 const STATUS: &str = "\
 Status: 0 every line is good, 1 a line is bad (it is named, and the others are run), 2 the arguments are
-wrong or the script can't be read. A refusal by the library is an answer like any other.";
+wrong, the script can't be read or the output not written. A refusal by the library is an answer like
+any other.";
 
 /// Columns of a line of names.
 const WIDTH: usize = 100;

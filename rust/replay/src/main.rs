@@ -9,6 +9,7 @@ mod script;
 mod words;
 mod world;
 
+use script::Failure;
 use std::ffi::OsString;
 use std::fs::File;
 use std::io::{self, BufRead, BufReader, ErrorKind, Write};
@@ -16,7 +17,7 @@ use std::process::ExitCode;
 
 /// A line of the script is bad.
 const BAD_LINE: u8 = 1;
-/// The arguments are wrong, or the script can't be read.
+/// The arguments are wrong, the script can't be read or the output not written.
 const BAD_USAGE: u8 = 2;
 
 fn fail(why: &str) -> ExitCode {
@@ -24,27 +25,30 @@ fn fail(why: &str) -> ExitCode {
     ExitCode::from(BAD_USAGE)
 }
 
-fn run(script: impl BufRead) -> ExitCode {
+/// The name of the script is for messages.
+fn run(script: impl BufRead, name: &str) -> ExitCode {
     match script::play(script, &mut io::stdout().lock()) {
         Ok(true) => ExitCode::SUCCESS,
         Ok(false) => ExitCode::from(BAD_LINE),
         // Whoever reads the output has seen enough.
-        Err(error) if error.kind() == ErrorKind::BrokenPipe => ExitCode::SUCCESS,
-        Err(error) => fail(&error.to_string()),
+        Err(Failure::Write(error)) if error.kind() == ErrorKind::BrokenPipe => ExitCode::SUCCESS,
+        Err(Failure::Write(error)) => fail(&format!("standard output: {error}")),
+        Err(Failure::Read(error)) => fail(&format!("{name}: {error}")),
     }
 }
 
 fn run_file(path: OsString) -> ExitCode {
+    let name = path.display().to_string();
     match File::open(&path) {
-        Ok(file) => run(BufReader::new(file)),
-        Err(error) => fail(&format!("{}: {error}", path.display())),
+        Ok(file) => run(BufReader::new(file), &name),
+        Err(error) => fail(&format!("{name}: {error}")),
     }
 }
 
 fn main() -> ExitCode {
     let mut arguments = std::env::args_os().skip(1);
     match (arguments.next(), arguments.next()) {
-        (None, _) => run(io::stdin().lock()),
+        (None, _) => run(io::stdin().lock(), "standard input"),
         (Some(word), None) if word == "--help" => {
             // It doesn't matter whether anyone reads it to its end.
             let _ = writeln!(io::stdout(), "{}", help::text());

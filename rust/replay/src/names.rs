@@ -46,16 +46,13 @@ pub fn offer(entry: Entry, text: &str) -> Parsed<Entry> {
     }
     let (kind, code) = code(text)?;
     let offered = match kind {
-        EV_REL => entry.offer_rel(),
+        EV_REL => Ok(entry.offer_rel()),
         EV_ABS => entry.offer_abs(code),
         EV_KEY => entry.offer_key(code),
-        _ => entry,
+        _ => Ok(entry),
     };
-    if offered.offers(kind, code) {
-        Ok(offered)
-    } else {
-        Err(format!("{text} can't be offered"))
-    }
+    let offered = offered.ok().filter(|entry| entry.offers(kind, code));
+    offered.ok_or_else(|| format!("{text} can't be offered"))
 }
 
 #[cfg(test)]
@@ -86,8 +83,9 @@ mod tests {
         let entry = Entry::new("pad");
         assert_eq!(offer(entry, "REL"), Ok(entry.offer_rel()));
         assert_eq!(offer(entry, "REL_X"), Ok(entry.offer_rel()));
-        assert_eq!(offer(entry, "3:63"), Ok(entry.offer_abs(63)));
-        assert_eq!(offer(entry, "BTN_TOUCH"), Ok(entry.offer_key(BTN_TOUCH)));
+        assert_eq!(offer(entry, "3:63"), Ok(entry.offer_abs(63).expect("a code below 64")));
+        let touch = entry.offer_key(BTN_TOUCH).expect("a button's code");
+        assert_eq!(offer(entry, "BTN_TOUCH"), Ok(touch));
         for text in ["3:64", "1:0xff", "1:0x160", "2:32", "SYN_REPORT", "DEV_SET", "6:0"] {
             assert_eq!(offer(entry, text), Err(format!("{text} can't be offered")));
         }

@@ -4,26 +4,35 @@ use crate::world::World;
 use std::io::{self, BufRead, Write};
 use thayarqo::Geometry;
 
+/// What ends a script before its last line.
+#[derive(Debug)]
+pub enum Failure {
+    Read(io::Error),
+    Write(io::Error),
+}
+
 /// Runs every line and writes what it came to. True where every line was good.
-pub fn play(script: impl BufRead, out: &mut impl Write) -> io::Result<bool> {
+pub fn play(script: impl BufRead, out: &mut impl Write) -> Result<bool, Failure> {
     let geometry = Geometry::new(1, 8, 68).expect("the smallest sizes");
     let mut world = World::new(geometry);
     let mut all_good = true;
     for (number, line) in (1..).zip(script.split(b'\n')) {
-        let line = String::from_utf8_lossy(&line?).trim_end().to_string();
+        let line = line.map_err(Failure::Read)?;
+        let line = String::from_utf8_lossy(&line).trim_end().to_string();
         let (command, _) = line.split_once('#').unwrap_or((&line, ""));
         let command = command.trim();
-        if command.is_empty() {
-            writeln!(out, "{line}")?;
-            continue;
-        }
-        match forms::command(command).and_then(|parsed| world.run(&parsed)) {
-            Ok(outcome) => writeln!(out, "{command}: {outcome}")?,
-            Err(wrong) => {
-                all_good = false;
-                writeln!(out, "{command}: bad line {number}, {wrong}")?;
+        let shown = if command.is_empty() {
+            line
+        } else {
+            match forms::command(command).and_then(|parsed| world.run(&parsed)) {
+                Ok(outcome) => format!("{command}: {outcome}"),
+                Err(wrong) => {
+                    all_good = false;
+                    format!("{command}: bad line {number}, {wrong}")
+                }
             }
-        }
+        };
+        writeln!(out, "{shown}").map_err(Failure::Write)?;
     }
     Ok(all_good)
 }

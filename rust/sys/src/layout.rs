@@ -12,6 +12,7 @@ const _: () = {
     assert!(size_of::<Copied>() == 8);
     assert!(size_of::<RingEvent>() == 32);
     assert!(size_of::<RingFound>() == 36);
+    assert!(size_of::<Parameter>() == 8);
     assert!(size_of::<Settings>() == 48);
     assert!(size_of::<Closed>() == 28);
 };

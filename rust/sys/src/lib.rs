@@ -1,18 +1,24 @@
-//! The C interface of the proved library, just as `include/thayarqo.h` has it. That header says of every call what it answers and
-//! what it changes; the crate `thayarqo` wraps the calls safely.
+//! The C interface of the proved library, just as `include/thayarqo.h` and its parts have it. They say of every call what it answers and
+//! what it changes.
 //!
-//! A lent buffer is a pointer and a length in bytes. Buffers of one call don't overlap.
+//! A lent buffer is a pointer and a length in bytes. Buffers of one call don't overlap. The calls of [`safe`] take slices, for which
+//! both hold; the crate `thayarqo` builds on these.
 #![no_std]
 
+mod answers;
 mod calls;
 mod layout;
+pub mod safe;
 
+pub use answers::*;
 pub use calls::*;
 
 /// A slot in [`Device`] and [`Driver`]: none.
 pub const NO_SLOT: u32 = 0xFFFF_FFFE;
 /// A slot in [`Driver`]: the guest was told that the source isn't known.
 pub const UNKNOWN_SLOT: u32 = 0xFFFF_FFFF;
+/// A slot in a DEV_RESET: all of them.
+pub const ALL_SLOTS: u32 = 0xFFFF;
 
 /// Bytes of the page of entries.
 pub const ENTRY_PAGE_LENGTH: usize = 4096;

@@ -1,11 +1,10 @@
 //! The host's end of a device.
-use crate::call;
 use crate::entry::Entry;
 use crate::event::Packet;
 use crate::geometry::{Geometry, PAGE_LENGTH};
 use crate::refusal::{Answer, Refusal};
 use crate::words;
-use thayarqo_sys as sys;
+use thayarqo_sys::{self as sys, safe};
 
 /// A device with pages of its own: its state, the event area and the entry page.
 ///
@@ -24,7 +23,7 @@ impl Device {
     pub fn new(geometry: Geometry) -> Device {
         Device {
             geometry,
-            state: call::fresh_device(),
+            state: safe::fresh_device(),
             area: vec![0; geometry.area_length()],
             page: vec![0; PAGE_LENGTH],
         }
@@ -32,7 +31,7 @@ impl Device {
 
     /// Reads a register, or a word of the pages, for the guest. Every width but 4 is refused.
     pub fn read(&self, offset: u64, width: u32) -> Answer<u32> {
-        let found = call::read(
+        let found = safe::read(
             &self.state,
             self.geometry.numbers(),
             &self.area,
@@ -47,7 +46,7 @@ impl Device {
     /// are reset, and which ones are taken.
     pub fn write(&mut self, offset: u64, width: u32, value: u32) -> Answer<()> {
         let geometry = self.geometry.numbers();
-        Refusal::check(call::write(
+        Refusal::check(safe::write(
             &mut self.state,
             geometry,
             &mut self.area,
@@ -68,7 +67,7 @@ impl Device {
     /// Puts a packet of events' bytes, which may be too few, too many or no whole events: these too get their answer.
     pub fn put_packet_bytes(&mut self, slot: u32, events: &[u8]) -> Answer<()> {
         let geometry = self.geometry.numbers();
-        Refusal::check(call::put_packet(
+        Refusal::check(safe::put_packet(
             &mut self.state,
             geometry,
             &mut self.area,
@@ -88,7 +87,7 @@ impl Device {
     /// Takes a slot with an entry of just [`Geometry::entry_size`] bytes, all of which are stored.
     pub fn add_bytes(&mut self, slot: u32, entry: &[u8]) -> Answer<()> {
         let geometry = self.geometry.numbers();
-        Refusal::check(call::add(
+        Refusal::check(safe::add(
             &mut self.state,
             geometry,
             &mut self.area,
@@ -101,7 +100,7 @@ impl Device {
     /// Frees a slot, zeroes its entry, and tells the guest while the device is on.
     pub fn remove(&mut self, slot: u32) -> Answer<()> {
         let geometry = self.geometry.numbers();
-        Refusal::check(call::remove(
+        Refusal::check(safe::remove(
             &mut self.state,
             geometry,
             &mut self.area,

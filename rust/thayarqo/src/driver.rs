@@ -1,10 +1,9 @@
 //! The guest's end of a device.
-use crate::call;
 use crate::entry::{Entry, KNOWN_ENTRY_LENGTH};
 use crate::event::{Packet, Source};
 use crate::geometry::Geometry;
 use crate::refusal::{Answer, Refusal};
-use thayarqo_sys as sys;
+use thayarqo_sys::{self as sys, safe};
 
 /// What a step has read.
 #[derive(Clone, Copy, Debug, PartialEq, Eq)]
@@ -31,7 +30,7 @@ pub enum Told {
     ResetAll,
 }
 
-/// A guest's driver: it reads records one at a time from the event area that it is lent, and collects them to packets.
+/// A guest's driver: it reads records one at a time from the event area that it is lent, and puts packets together from them.
 #[derive(Clone, Debug, PartialEq, Eq)]
 pub struct Driver {
     geometry: Geometry,
@@ -45,7 +44,7 @@ impl Driver {
     pub fn new(geometry: Geometry) -> Driver {
         Driver {
             geometry,
-            state: call::fresh_driver(),
+            state: safe::fresh_driver(),
             packet: [0; sys::PACKET_LENGTH],
         }
     }
@@ -53,7 +52,7 @@ impl Driver {
     /// Reads one record and moves READ_PTR past it. [`Refusal::Malformed`] tells of a record, or of a packet, that has no meaning
     /// and is consumed all the same.
     pub fn step(&mut self, area: &mut [u8]) -> Answer<Told> {
-        let told = call::step(&mut self.state, self.geometry.numbers(), area, &mut self.packet);
+        let told = safe::step(&mut self.state, self.geometry.numbers(), area, &mut self.packet);
         Refusal::check(told.answer)?;
         Ok(match told.what {
             sys::TOLD_GAP => Told::Gap,
@@ -70,14 +69,14 @@ impl Driver {
     /// Copies the first 8 bytes of the oldest records, at most `limit` and as many as `out` has room for, and moves READ_PTR past
     /// them. Answers how many.
     pub fn copy_out(&self, area: &mut [u8], limit: u32, out: &mut [u8]) -> Answer<usize> {
-        let copied = call::copy_out(self.geometry.numbers(), area, limit, out);
+        let copied = safe::copy_out(self.geometry.numbers(), area, limit, out);
         Refusal::check(copied.answer).map(|()| copied.count as usize)
     }
 
     /// The entry of a slot.
     pub fn lookup(&self, page: &[u8], slot: u32) -> Answer<Entry> {
         let mut bytes = [0; KNOWN_ENTRY_LENGTH];
-        Refusal::check(call::lookup(self.geometry.numbers(), page, slot, &mut bytes))?;
+        Refusal::check(safe::lookup(self.geometry.numbers(), page, slot, &mut bytes))?;
         Ok(Entry::of_bytes(bytes))
     }
 

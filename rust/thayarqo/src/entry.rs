@@ -1,5 +1,6 @@
 //! Device entries: what a slot is called, and which events it offers.
 use crate::codes::{BTN_0, EV_ABS, EV_KEY, EV_REL, EV_SYN, SYN_MT_REPORT};
+use crate::refusal::{Answer, Refusal};
 use std::ops::Range;
 use thayarqo_sys as sys;
 
@@ -22,17 +23,19 @@ const KEY_CODES: Range<u16> = BTN_0..BTN_0 + 96;
 ///
 /// ```
 /// use thayarqo::codes::{ABS_X, BTN_LEFT, BTN_RIGHT, EV_ABS, EV_KEY};
-/// use thayarqo::Entry;
+/// use thayarqo::{Entry, Refusal};
 ///
-/// let mouse = Entry::new("mouse").offer_rel().offer_key(BTN_LEFT).offer_key(BTN_RIGHT);
+/// let mouse = Entry::new("mouse").offer_rel().offer_key(BTN_LEFT)?.offer_key(BTN_RIGHT)?;
 /// assert_eq!(mouse.name(), b"mouse");
 /// assert!(mouse.offers(EV_KEY, BTN_LEFT) && !mouse.offers(EV_ABS, ABS_X));
+/// # Ok::<(), Refusal>(())
 /// ```
 #[derive(Clone, Copy, Debug, PartialEq, Eq)]
 pub struct Entry([u8; KNOWN_ENTRY_LENGTH]);
 
 impl Entry {
     /// An entry that offers packets, but no event yet. The name is cut after [`NAME_LENGTH`] bytes.
+    #[must_use]
     pub fn new(name: &str) -> Entry {
         let mut entry = Entry([0; KNOWN_ENTRY_LENGTH]);
         let length = name.len().min(NAME_LENGTH);
@@ -41,24 +44,25 @@ impl Entry {
     }
 
     /// With movements, of any code.
+    #[must_use]
     pub fn offer_rel(self) -> Entry {
         self.offer(EV_REL)
     }
 
-    /// With positions of a code, below 64. Another code can't be offered: it changes nothing.
-    pub fn offer_abs(self, code: u16) -> Entry {
+    /// With positions of a code, below 64. An entry has no bit for another code: [`Refusal::Malformed`].
+    pub fn offer_abs(self, code: u16) -> Answer<Entry> {
         if code >= ABS_CODES {
-            return self;
+            return Err(Refusal::Malformed);
         }
-        self.offer(EV_ABS).with_bit(ABSBITS, code)
+        Ok(self.offer(EV_ABS).with_bit(ABSBITS, code))
     }
 
-    /// With a button, from `BTN_0` to 0x15F. Another code can't be offered: it changes nothing.
-    pub fn offer_key(self, code: u16) -> Entry {
+    /// With a button, from `BTN_0` to 0x15F. An entry has no bit for another code: [`Refusal::Malformed`].
+    pub fn offer_key(self, code: u16) -> Answer<Entry> {
         if !KEY_CODES.contains(&code) {
-            return self;
+            return Err(Refusal::Malformed);
         }
-        self.offer(EV_KEY).with_bit(BTNBITS, code - BTN_0)
+        Ok(self.offer(EV_KEY).with_bit(BTNBITS, code - BTN_0))
     }
 
     fn offer(self, kind: u16) -> Entry {

@@ -146,7 +146,7 @@ impl Packet {
         &self.events[..self.count]
     }
 
-    /// Writes the bytes of the events to the begin of a buffer, and hands these back.
+    /// Writes the bytes of the events to the start of a buffer, and hands these back.
     pub(crate) fn bytes<'a>(&self, buffer: &'a mut [u8; sys::PACKET_LENGTH]) -> &'a [u8] {
         let (places, _) = buffer.as_chunks_mut();
         for (place, event) in places.iter_mut().zip(self.events()) {

@@ -33,7 +33,6 @@
 //! write its pages at any moment, there is the module [`live`].
 #![deny(missing_docs, unsafe_code)]
 
-mod call;
 pub mod codes;
 mod device;
 mod driver;

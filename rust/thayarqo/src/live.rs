@@ -14,6 +14,9 @@
 //! [`BadIndex`](crate::Refusal::BadIndex) or [`NoRoom`](crate::Refusal::NoRoom) by its read pointer, and changes nothing else but
 //! what it reads itself.
 //!
+//! A switch-on sets both pointers of the ring to 0, and the shared words don't tell one start from another. So a guest that switches
+//! the device off and on lets its driver rest meanwhile; [`LiveDriver::restart`] says what can go wrong otherwise.
+//!
 //! ```
 //! use std::sync::atomic::AtomicU32;
 //! use std::thread;
@@ -54,6 +57,9 @@ pub use driver::LiveDriver;
 pub use ring::{LiveConsumer, LiveProducer};
 pub use shared::Shared;
 
+use crate::geometry::{Geometry, PAGE_LENGTH};
+use crate::refusal::{Answer, Refusal};
+
 /// Where READ_PTR and WRITE_PTR stand in the event area.
 const READ_PTR: usize = 0;
 const WRITE_PTR: usize = 4;
@@ -63,3 +69,11 @@ const CLOSED: u32 = u32::MAX;
 
 /// Bytes of a record that the device writes.
 const RECORD_LENGTH: usize = crate::event::EVENT_LENGTH;
+
+/// Whether the event area and the entry page have the lengths that the geometry asks for.
+fn check_lengths(geometry: Geometry, area: Shared, page: Shared) -> Answer<()> {
+    if area.length() != geometry.area_length() || page.length() != PAGE_LENGTH {
+        return Err(Refusal::Invalid);
+    }
+    Ok(())
+}

@@ -1,6 +1,7 @@
 //! Why a call was refused.
 use std::error::Error;
 use std::fmt;
+use thayarqo_sys as sys;
 
 /// What a call answers: done, with what it hands back, or the reason why it isn't.
 pub type Answer<T> = Result<T, Refusal>;
@@ -15,29 +16,29 @@ pub type Answer<T> = Result<T, Refusal>;
 #[repr(u8)]
 pub enum Refusal {
     /// 1: a geometry that isn't allowed, a buffer of another length, or a state that breaks a rule.
-    Invalid = 1,
+    Invalid = sys::INVALID,
     /// 2: an access that isn't 4 bytes wide, isn't at a multiple of 4, or is past the BAR.
-    BadAccess = 2,
+    BadAccess = sys::BAD_ACCESS,
     /// 3: a write to a read-only place.
-    ReadOnly = 3,
+    ReadOnly = sys::READ_ONLY,
     /// 4: no register at this offset of the first page.
-    NoRegister = 4,
+    NoRegister = sys::NO_REGISTER,
     /// 5: a packet while the device is off.
-    DeviceOff = 5,
+    DeviceOff = sys::DEVICE_OFF,
     /// 6: a slot out of range, taken at an add, or absent at a remove, a packet or a lookup.
-    BadSlot = 6,
+    BadSlot = sys::BAD_SLOT,
     /// 7: too little room.
-    NoRoom = 7,
+    NoRoom = sys::NO_ROOM,
     /// 8: an event that the slot doesn't offer.
-    NotOffered = 8,
+    NotOffered = sys::NOT_OFFERED,
     /// 9: a badly formed packet, entry, event or record.
-    Malformed = 9,
+    Malformed = sys::MALFORMED,
     /// 10: the other end's index is impossible.
-    BadIndex = 10,
+    BadIndex = sys::BAD_INDEX,
     /// 11: nothing to read.
-    NothingToRead = 11,
+    NothingToRead = sys::NOTHING_TO_READ,
     /// 12: a bad node text, or settings that lack a node.
-    BadSetting = 12,
+    BadSetting = sys::BAD_SETTING,
 }
 
 const REFUSALS: [Refusal; 12] = [
@@ -88,7 +89,7 @@ impl fmt::Display for Refusal {
             Refusal::Malformed => "the packet, entry, event or record is badly formed",
             Refusal::BadIndex => "the other end's index is impossible",
             Refusal::NothingToRead => "there is nothing to read",
-            Refusal::BadSetting => "a node's text is bad, or a node lacks",
+            Refusal::BadSetting => "a node's text is bad, or a node is missing",
         })
     }
 }

@@ -1,8 +1,7 @@
 //! Both ends of the keyboard ring. The ring's page begins as zeros, and both ends with an index of 0.
-use crate::call;
 use crate::refusal::{Answer, Refusal};
 use crate::ring_event::RingEvent;
-use thayarqo_sys as sys;
+use thayarqo_sys::{self as sys, safe};
 
 /// Bytes of the ring's page.
 pub const RING_PAGE_LENGTH: usize = sys::RING_PAGE_LENGTH;
@@ -34,7 +33,9 @@ pub struct RingProducer {
 }
 
 impl RingProducer {
-    /// At the ring's begin. The contact limit is 1 to 32; any other is [`Refusal::Invalid`].
+    /// At the start of the ring. The contact limit is 1 to 32, see [`Closed::contact_limit`]; any other is [`Refusal::Invalid`].
+    ///
+    /// [`Closed::contact_limit`]: crate::Closed::contact_limit
     pub fn new(contact_limit: u32) -> Answer<RingProducer> {
         check_contact_limit(contact_limit)?;
         Ok(RingProducer {
@@ -50,7 +51,7 @@ impl RingProducer {
 
     /// Puts an event's bytes, which have to be well formed.
     pub fn put_bytes(&mut self, page: &mut [u8], event: &[u8]) -> Answer<()> {
-        Refusal::check(call::ring_put(page, &mut self.in_prod, self.contact_limit, event))
+        Refusal::check(safe::ring_put(page, &mut self.in_prod, self.contact_limit, event))
     }
 
     /// How many events have been put, modulo 2^32. This index is trusted, and not the one in the page.
@@ -67,7 +68,9 @@ pub struct RingConsumer {
 }
 
 impl RingConsumer {
-    /// At the ring's begin. The contact limit is 1 to 32; any other is [`Refusal::Invalid`].
+    /// At the start of the ring. The contact limit is 1 to 32, see [`Closed::contact_limit`]; any other is [`Refusal::Invalid`].
+    ///
+    /// [`Closed::contact_limit`]: crate::Closed::contact_limit
     pub fn new(contact_limit: u32) -> Answer<RingConsumer> {
         check_contact_limit(contact_limit)?;
         Ok(RingConsumer {
@@ -78,7 +81,7 @@ impl RingConsumer {
 
     /// Takes an event. [`Refusal::Malformed`] tells of one that has no meaning and is consumed all the same.
     pub fn take(&mut self, page: &mut [u8]) -> Answer<RingEvent> {
-        RingEvent::found(call::ring_take(page, &mut self.in_cons, self.contact_limit))
+        RingEvent::found(safe::ring_take(page, &mut self.in_cons, self.contact_limit))
     }
 
     /// How many events have been taken, modulo 2^32. This index is trusted, and not the one in the page.

@@ -1,7 +1,6 @@
 //! Events of the keyboard ring.
-use crate::call;
 use crate::refusal::{Answer, Refusal};
-use thayarqo_sys as sys;
+use thayarqo_sys::{self as sys, safe};
 
 /// Bytes of an event in the ring.
 pub const RING_EVENT_LENGTH: usize = sys::RING_EVENT_LENGTH;
@@ -49,13 +48,13 @@ impl RingEvent {
     /// The event's bytes in the ring. [`Refusal::Malformed`] where it is unknown.
     pub fn encode(self) -> Answer<[u8; RING_EVENT_LENGTH]> {
         let mut bytes = [0; RING_EVENT_LENGTH];
-        Refusal::check(call::ring_encode(&mut bytes, self.numbers()))?;
+        Refusal::check(safe::ring_encode(&mut bytes, self.numbers()))?;
         Ok(bytes)
     }
 
     /// The event of [`RING_EVENT_LENGTH`] bytes. The contact limit is 1 to 32.
     pub fn decode(bytes: &[u8], contact_limit: u32) -> Answer<RingEvent> {
-        RingEvent::found(call::ring_decode(bytes, contact_limit))
+        RingEvent::found(safe::ring_decode(bytes, contact_limit))
     }
 
     pub(crate) fn found(found: sys::RingFound) -> Answer<RingEvent> {

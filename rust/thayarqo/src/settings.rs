@@ -1,7 +1,6 @@
 //! Node settings of the keyboard ring.
-use crate::call;
 use crate::refusal::{Answer, Refusal};
-use thayarqo_sys as sys;
+use thayarqo_sys::{self as sys, safe};
 
 /// The nodes that have come so far.
 ///
@@ -37,7 +36,7 @@ pub struct Closed {
     pub width: u32,
     /// Of the pointer's area.
     pub height: u32,
-    /// How many contacts there can be, 1 to 32 under multi-touch: the contact limit of the ring.
+    /// How many contacts there can be, 1 to 32 under multi-touch. A ring takes [`Closed::contact_limit`].
     pub contacts: u32,
     /// Of the contacts' area.
     pub touch_width: u32,
@@ -45,20 +44,31 @@ pub struct Closed {
     pub touch_height: u32,
 }
 
+impl Closed {
+    /// The contact limit for both ends of the ring. Without multi-touch no contact is reported, and the least limit will do: 1.
+    pub fn contact_limit(&self) -> u32 {
+        if self.multi_touch {
+            self.contacts
+        } else {
+            1
+        }
+    }
+}
+
 impl Settings {
     /// Before any node.
     pub fn new() -> Settings {
-        Settings(call::fresh_settings())
+        Settings(safe::fresh_settings())
     }
 
     /// Takes one node. Names that aren't meant here are ignored; a bad value is [`Refusal::BadSetting`].
     pub fn node(&mut self, name: impl AsRef<[u8]>, value: impl AsRef<[u8]>) -> Answer<()> {
-        Refusal::check(call::node(&mut self.0, name.as_ref(), value.as_ref()))
+        Refusal::check(safe::node(&mut self.0, name.as_ref(), value.as_ref()))
     }
 
     /// The modes, once all nodes have come. [`Refusal::BadSetting`] where a mode lacks a node.
     pub fn close(&self) -> Answer<Closed> {
-        let closed = call::close(self.0);
+        let closed = safe::close(self.0);
         Refusal::check(closed.answer).map(|()| Closed {
             absolute: closed.absolute,
             multi_touch: closed.multi_touch,

@@ -28,9 +28,7 @@ fn a_geometry_is_the_librarys() {
                     record_size,
                     entry_size,
                 };
-                let answer = unsafe {
-                    thayarqo_sys::thayarqo_lookup(numbers, page.as_ptr(), page.len(), 0, out.as_mut_ptr(), out.len())
-                };
+                let answer = thayarqo_sys::safe::lookup(numbers, &page, 0, &mut out);
                 let is_allowed = answer != Refusal::Invalid.number();
                 assert_eq!(
                     Geometry::new(pages, record_size, entry_size).is_ok(),
@@ -97,8 +95,8 @@ fn events_that_are_no_packet_are_refused() -> Answer<()> {
 fn an_entry_offers_what_the_library_accepts() -> Answer<()> {
     let geometry = Geometry::new(8, 8, 68)?;
     let entries = [
-        Entry::new("mouse").offer_rel().offer_key(BTN_LEFT),
-        Entry::new("pen").offer_abs(ABS_X).offer_abs(63).offer_key(0x15F),
+        Entry::new("mouse").offer_rel().offer_key(BTN_LEFT)?,
+        Entry::new("pen").offer_abs(ABS_X)?.offer_abs(63)?.offer_key(0x15F)?,
     ];
     for entry in entries {
         let mut device = Device::new(geometry);
@@ -115,6 +113,17 @@ fn an_entry_offers_what_the_library_accepts() -> Answer<()> {
 }
 
 #[test]
+fn codes_without_a_bit_are_refused() {
+    let entry = Entry::new("pen");
+    for code in [64, 0x100, u16::MAX] {
+        assert_eq!(entry.offer_abs(code), Err(Refusal::Malformed), "{code}");
+    }
+    for code in [0, 0xFF, 0x160, u16::MAX] {
+        assert_eq!(entry.offer_key(code), Err(Refusal::Malformed), "{code}");
+    }
+}
+
+#[test]
 fn an_offer_is_the_entry_pages() -> Answer<()> {
     let mut device = running_device()?;
     device.page_mut().fill(0);
@@ -124,7 +133,7 @@ fn an_offer_is_the_entry_pages() -> Answer<()> {
 }
 
 #[test]
-fn a_guests_silly_read_pointer_is_refused() -> Answer<()> {
+fn a_guests_impossible_read_pointer_is_refused() -> Answer<()> {
     let mut device = running_device()?;
     device.write(READ_PTR, 4, 63)?;
     assert_eq!(device.put_packet(&motions(1)), Err(Refusal::BadIndex));

@@ -5,17 +5,17 @@ use common::{switch_on, Guarded, Log, Mark};
 use std::thread;
 use thayarqo::codes::{REL_X, REL_Y};
 use thayarqo::live::{LiveDevice, LiveDriver, Shared};
-use thayarqo::{Answer, Entry, Event, Geometry, Packet, Refusal, Told};
+use thayarqo::{Answer, Entry, Event, Geometry, Packet, Refusal, Source, Told};
 
 const SLOTS: [u32; 2] = [3, 7];
 
-fn started<'a>(geometry: Geometry, pages: &'a Guarded) -> Answer<LiveDevice<'a>> {
-    let mut device = LiveDevice::new(geometry, pages.shared(0), pages.shared(1))?;
+fn started(geometry: Geometry, pages: &Guarded) -> Answer<(LiveDevice<'_>, LiveDriver<'_>)> {
+    let (mut device, driver) = pages.both_ends(geometry)?;
     for slot in SLOTS {
         device.add(slot, &Entry::new("mouse").offer_rel())?;
     }
     switch_on(&mut device)?;
-    Ok(device)
+    Ok((device, driver))
 }
 
 /// A packet with its number inside. The slot changes now and then, and the length each time.
@@ -94,8 +94,7 @@ fn receive(mut driver: LiveDriver, marks: &Marks) -> Log {
 
 fn deliver(geometry: Geometry, packets: u64) -> Answer<()> {
     let pages = Guarded::pages(geometry);
-    let device = started(geometry, &pages)?;
-    let driver = LiveDriver::new(geometry, pages.shared(0), pages.shared(1))?;
+    let (device, driver) = started(geometry, &pages)?;
     let marks = Marks::default();
     let (sent, received) = thread::scope(|scope| {
         let guest = scope.spawn(|| marks.guest_is_done.after(|| receive(driver, &marks)));
@@ -125,11 +124,24 @@ fn packets_in_the_largest_ring() -> Answer<()> {
 }
 
 #[test]
+fn a_driver_tells_its_sizes_and_its_source() -> Answer<()> {
+    let geometry = Geometry::new(1, 64, 256)?;
+    let pages = Guarded::pages(geometry);
+    let (mut device, mut driver) = started(geometry, &pages)?;
+    assert_eq!(driver.driver().geometry(), geometry);
+    assert_eq!(driver.driver().source(), Source::None);
+    device.put_packet(&packet(0))?;
+    while driver.step()? != Told::Packet(packet(0)) {}
+    assert_eq!(driver.driver().source(), packet(0).source());
+    Ok(())
+}
+
+#[test]
 fn a_raw_mapping_is_as_good() -> Answer<()> {
     let geometry = Geometry::new(1, 8, 68)?;
     let mut words = vec![0_u32; 2 * 1024];
     let start = words.as_mut_ptr();
-    // The words live to the end of the test, and are touched through these two alone.
+    // SAFETY: the words live to the end of the test, and are touched through these two alone.
     let (area, page) = unsafe { (Shared::from_raw(start, 1024), Shared::from_raw(start.add(1024), 1024)) };
     let mut device = LiveDevice::new(geometry, area, page)?;
     let mut driver = LiveDriver::new(geometry, area, page)?;

@@ -1,7 +1,7 @@
 //! The keyboard ring between threads: all that is put is taken, in order; and a guest that scribbles changes nothing for the host.
 mod common;
 
-use common::{Chance, Digest, Guarded, Mark};
+use common::{Digest, Guarded, Mark, Random};
 use std::sync::atomic::{AtomicU32, Ordering};
 use std::thread;
 use thayarqo::live::{LiveConsumer, LiveProducer};
@@ -130,12 +130,12 @@ fn take_scribbles(mut consumer: LiveConsumer, host_is_done: &Mark) {
 
 /// Any word, any number; and indices near the host's now and then, so that they are possible.
 fn scribble(page: &[AtomicU32], in_prod: &AtomicU32, host_is_done: &Mark) {
-    let mut chance = Chance(31);
+    let mut random = Random(31);
     while !host_is_done.is_set() {
         for _ in 0..32 {
-            page[chance.below(1024) as usize].store(chance.next(), Ordering::Relaxed);
+            page[random.below(1024) as usize].store(random.next(), Ordering::Relaxed);
         }
-        let near = in_prod.load(Ordering::Relaxed).wrapping_sub(chance.below(60));
+        let near = in_prod.load(Ordering::Relaxed).wrapping_sub(random.below(60));
         page[0].store(near, Ordering::Relaxed);
         thread::yield_now();
     }

@@ -1,4 +1,4 @@
-//! The names of codes, forth and back.
+//! The names of codes, and the codes of names.
 use thayarqo::codes::{code_name, code_named, ABS_MT_POSITION_X, DEV_SET, EV_ABS, EV_DEV};
 
 #[test]

@@ -1,4 +1,6 @@
-//! A guest that goes on reading while the device is switched off and on again: each time it sees a whole new start.
+//! A guest that goes on stepping while the device is switched off and on again. Here the ring doesn't come round in between, so each
+//! start that the guest sees is whole: it is told of the reset, and then of that start's packets from the first one on. It may miss a
+//! start altogether. [`LiveDriver::restart`] says what can go wrong in other rings.
 mod common;
 
 use common::{Guarded, Mark};
@@ -107,8 +109,7 @@ fn run_guest(mut driver: LiveDriver, marks: &Marks) -> Reader {
 fn a_restart_is_seen_whole() -> Answer<()> {
     let geometry = Geometry::new(1, 8, 68)?;
     let pages = Guarded::pages(geometry);
-    let device = LiveDevice::new(geometry, pages.shared(0), pages.shared(1))?;
-    let driver = LiveDriver::new(geometry, pages.shared(0), pages.shared(1))?;
+    let (device, driver) = pages.both_ends(geometry)?;
     let marks = Marks::default();
     let (last, reader) = thread::scope(|scope| {
         let guest = scope.spawn(|| marks.guest_has_seen_two.after(|| run_guest(driver, &marks)));

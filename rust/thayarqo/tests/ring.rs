@@ -1,6 +1,6 @@
 //! The keyboard ring: each event's bytes, what is refused, and the order of what is taken.
 use thayarqo::RingEvent::{TouchDown, TouchMotion, TouchOrient, TouchShape, TouchSyn, TouchUp};
-use thayarqo::{Answer, Refusal, RingConsumer, RingEvent, RingProducer, RING_PAGE_LENGTH};
+use thayarqo::{Answer, Refusal, RingConsumer, RingEvent, RingProducer, Settings, RING_PAGE_LENGTH};
 
 const CONTACT_LIMIT: u32 = 10;
 
@@ -78,6 +78,20 @@ fn contacts_are_below_the_limit() -> Answer<()> {
 }
 
 #[test]
+fn settings_give_the_contact_limit() -> Answer<()> {
+    let mut settings = Settings::new();
+    assert_eq!(settings.close()?.contact_limit(), 1);
+    for node in ["multi-touch-num-contacts", "multi-touch-width", "multi-touch-height"] {
+        settings.node(node, "10")?;
+    }
+    assert_eq!(settings.close()?.contact_limit(), 1, "contacts, but no multi-touch");
+    settings.node("feature-multi-touch", "1")?;
+    settings.node("request-multi-touch", "1")?;
+    assert_eq!(settings.close()?.contact_limit(), 10);
+    Ok(())
+}
+
+#[test]
 fn what_is_taken_is_what_was_put() -> Answer<()> {
     let mut page = [0; RING_PAGE_LENGTH];
     let mut producer = RingProducer::new(CONTACT_LIMIT)?;
@@ -96,7 +110,7 @@ fn what_is_taken_is_what_was_put() -> Answer<()> {
 }
 
 #[test]
-fn a_full_ring_and_silly_indices_are_refused() -> Answer<()> {
+fn a_full_ring_and_impossible_indices_are_refused() -> Answer<()> {
     let mut page = [0; RING_PAGE_LENGTH];
     let mut producer = RingProducer::new(1)?;
     let event = RingEvent::Motion { x: 1, y: 2, z: 3 };

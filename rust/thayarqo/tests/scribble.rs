@@ -1,7 +1,7 @@
 //! A guest that writes its pages at any moment: the host's state is what the read pointers alone make of it.
 mod common;
 
-use common::{Chance, Guarded, Mark};
+use common::{Guarded, Mark, Random};
 use std::sync::atomic::{AtomicU32, Ordering};
 use std::thread;
 use thayarqo::codes::REL_X;
@@ -64,11 +64,11 @@ impl Host<'_> {
         );
     }
 
-    fn run(&mut self, chance: &mut Chance) {
-        match chance.below(100) {
-            0..80 => self.put(1, 1 + chance.below(32)),
-            80..90 => self.plug(2 + chance.below(50)),
-            90..95 => self.write(READ_PTR, chance.below(600)),
+    fn run(&mut self, random: &mut Random) {
+        match random.below(100) {
+            0..80 => self.put(1, 1 + random.below(32)),
+            80..90 => self.plug(2 + random.below(50)),
+            90..95 => self.write(READ_PTR, random.below(600)),
             95..97 => self.write(ISR, 1),
             97..98 => self.write(CONTROL, 0),
             _ => self.write(CLIENT_REV, 2),
@@ -101,12 +101,12 @@ impl Marks {
 }
 
 fn run_guest(mut driver: LiveDriver, marks: &Marks) {
-    let mut chance = Chance(77);
+    let mut random = Random(77);
     let mut out = [0; 80];
-    marks.go_round(&marks.guest_has_run, || match chance.below(10) {
-        0 => assert!(matches!(driver.lookup(chance.below(70)), Ok(_) | Err(Refusal::BadSlot))),
+    marks.go_round(&marks.guest_has_run, || match random.below(10) {
+        0 => assert!(matches!(driver.lookup(random.below(70)), Ok(_) | Err(Refusal::BadSlot))),
         1 => assert!(matches!(
-            driver.copy_out(chance.below(20), &mut out),
+            driver.copy_out(random.below(20), &mut out),
             Ok(0..=10) | Err(Refusal::BadIndex | Refusal::NothingToRead)
         )),
         _ => assert!(matches!(
@@ -118,14 +118,14 @@ fn run_guest(mut driver: LiveDriver, marks: &Marks) {
 
 /// Any word, any number; the pointers more often than others, so that they are possible now and then.
 fn scribble(area: &[AtomicU32], page: &[AtomicU32], marks: &Marks) {
-    let mut chance = Chance(99);
+    let mut random = Random(99);
     marks.go_round(&marks.scribbler_has_run, || {
         for _ in 0..32 {
-            let place = chance.next() as usize;
-            area[place % area.len()].store(chance.next(), Ordering::Relaxed);
-            page[place % page.len()].store(chance.next(), Ordering::Relaxed);
+            let place = random.next() as usize;
+            area[place % area.len()].store(random.next(), Ordering::Relaxed);
+            page[place % page.len()].store(random.next(), Ordering::Relaxed);
         }
-        area[chance.below(2) as usize].store(chance.below(520), Ordering::Relaxed);
+        area[random.below(2) as usize].store(random.below(520), Ordering::Relaxed);
         thread::yield_now();
     });
 }
@@ -134,12 +134,12 @@ fn run_host(host: &mut Host, marks: &Marks) {
     host.plug(1);
     host.write(CLIENT_REV, 2);
     host.write(CONTROL, CONTROL_ON);
-    let mut chance = Chance(55);
+    let mut random = Random(55);
     for _ in 0..CALLS {
-        host.run(&mut chance);
+        host.run(&mut random);
     }
     while !marks.guest_has_run.is_set() || !marks.scribbler_has_run.is_set() {
-        host.run(&mut chance);
+        host.run(&mut random);
         thread::yield_now();
     }
 }
@@ -148,8 +148,7 @@ fn run_host(host: &mut Host, marks: &Marks) {
 fn scribbling_changes_nothing_but_what_the_guest_reads() -> Answer<()> {
     let geometry = Geometry::new(1, 8, 72)?;
     let pages = Guarded::pages(geometry);
-    let live = LiveDevice::new(geometry, pages.shared(0), pages.shared(1))?;
-    let driver = LiveDriver::new(geometry, pages.shared(0), pages.shared(1))?;
+    let (live, driver) = pages.both_ends(geometry)?;
     let reference = live.device().clone();
     let mut host = Host {
         live,

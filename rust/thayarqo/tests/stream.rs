@@ -3,17 +3,19 @@ use thayarqo::codes::*;
 use thayarqo::register::{CLIENT_REV, CONTROL, CONTROL_ON};
 use thayarqo::{Answer, Device, Driver, Entry, Event, Geometry, Packet, Refusal, Source, Told, PACKET_EVENTS};
 
-fn pen() -> Entry {
-    let entry = Entry::new("pen")
-        .offer_abs(ABS_X)
-        .offer_abs(ABS_Y)
-        .offer_abs(ABS_PRESSURE);
-    entry.offer_key(BTN_TOOL_PEN).offer_key(BTN_TOUCH)
+fn pen() -> Answer<Entry> {
+    let entry = Entry::new("pen").offer_abs(ABS_X)?.offer_abs(ABS_Y)?;
+    entry
+        .offer_abs(ABS_PRESSURE)?
+        .offer_key(BTN_TOOL_PEN)?
+        .offer_key(BTN_TOUCH)
 }
 
-fn touch_screen() -> Entry {
-    let entry = Entry::new("touch").offer_abs(ABS_MT_SLOT).offer_abs(ABS_MT_TRACKING_ID);
-    entry.offer_abs(ABS_MT_POSITION_X).offer_abs(ABS_MT_POSITION_Y)
+fn touch_screen() -> Answer<Entry> {
+    let entry = Entry::new("touch")
+        .offer_abs(ABS_MT_SLOT)?
+        .offer_abs(ABS_MT_TRACKING_ID)?;
+    entry.offer_abs(ABS_MT_POSITION_X)?.offer_abs(ABS_MT_POSITION_Y)
 }
 
 fn packets() -> Answer<Vec<Packet>> {
@@ -32,8 +34,8 @@ fn packets() -> Answer<Vec<Packet>> {
 
 fn running_device() -> Answer<Device> {
     let mut device = Device::new(Geometry::new(1, 8, 68)?);
-    device.add(4, &pen())?;
-    device.add(7, &touch_screen())?;
+    device.add(4, &pen()?)?;
+    device.add(7, &touch_screen()?)?;
     device.write(CLIENT_REV, 4, 2)?;
     device.write(CONTROL, 4, CONTROL_ON)?;
     for packet in packets()? {
@@ -87,24 +89,36 @@ fn the_driver_tells_what_was_put() -> Answer<()> {
     expected.push(Told::Set(Source::Slot(7)));
     expected.extend(sent[3..].iter().copied().map(Told::Packet));
     assert_eq!(told, (expected, Refusal::NothingToRead));
-    assert_eq!(driver.lookup(device.page(), 7)?, touch_screen());
+    assert_eq!(driver.lookup(device.page(), 7)?, touch_screen()?);
     Ok(())
+}
+
+/// What a driver that has read all before it tells of one more packet.
+fn told_of(packet: Packet) -> Answer<(Vec<Told>, Refusal)> {
+    let mut device = running_device()?;
+    let mut driver = Driver::new(device.geometry());
+    told_until_refused(&mut driver, device.area_mut());
+    device.put_packet(&packet)?;
+    Ok(told_until_refused(&mut driver, device.area_mut()))
 }
 
 #[test]
 fn a_packet_of_the_most_events_comes_whole() -> Answer<()> {
-    let mut device = running_device()?;
-    let mut driver = Driver::new(device.geometry());
-    told_until_refused(&mut driver, device.area_mut());
     let events: Vec<Event> = (0..PACKET_EVENTS)
         .map(|number| Event::abs(ABS_X, number as i32))
         .collect();
     let packet = Packet::new(4, &events)?;
-    device.put_packet(&packet)?;
     let expected = vec![Told::Set(Source::Slot(4)), Told::Packet(packet)];
-    assert_eq!(
-        told_until_refused(&mut driver, device.area_mut()),
-        (expected, Refusal::NothingToRead)
-    );
+    assert_eq!(told_of(packet)?, (expected, Refusal::NothingToRead));
+    Ok(())
+}
+
+/// A screen that doesn't number its contacts ends each with a record of its own.
+#[test]
+fn contacts_without_a_number_end_with_a_report() -> Answer<()> {
+    let contact = |x| [Event::abs(ABS_MT_POSITION_X, x), Event::mt_report()];
+    let packet = Packet::new(7, &[contact(200), contact(300)].concat())?;
+    assert_eq!(Event::mt_report().to_string(), "SYN_MT_REPORT 0");
+    assert_eq!(told_of(packet)?, (vec![Told::Packet(packet)], Refusal::NothingToRead));
     Ok(())
 }

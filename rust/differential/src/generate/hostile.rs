@@ -1,4 +1,4 @@
-//! A guest that stores silly pointers, and scribbles over pages that it may see.
+//! A guest that stores impossible pointers, and scribbles over pages that it may see.
 
 use super::accesses::{any_access, any_pointer};
 use super::{ring_length, slots, Action};

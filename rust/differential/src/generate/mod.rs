@@ -43,7 +43,7 @@ impl fmt::Display for Action {
 pub enum Mood {
     /// A host and a guest that keep to the rules.
     Traffic,
-    /// A guest that stores silly pointers and scribbles over its pages.
+    /// A guest that stores impossible pointers and scribbles over its pages.
     Hostile,
     /// A caller that passes broken states, wrong lengths and other sizes.
     Damaged,

@@ -27,7 +27,7 @@ fn a_packet_is_a_slot_and_pairs() {
 
 #[test]
 fn an_entry_has_a_name_and_codes() {
-    let entry = Entry::new("pad").offer_rel().offer_abs(ABS_X);
+    let entry = Entry::new("pad").offer_rel().offer_abs(ABS_X).expect("a code below 64");
     assert_eq!(
         command("add 7 pad REL ABS_X"),
         Ok(Command::Add {

@@ -1,14 +1,15 @@
 //! The host's end of a device with a running guest.
-use super::{Shared, CLOSED, READ_PTR, RECORD_LENGTH, WRITE_PTR};
+use super::{check_lengths, Shared, CLOSED, READ_PTR, RECORD_LENGTH, WRITE_PTR};
 use crate::device::Device;
 use crate::entry::Entry;
 use crate::event::Packet;
-use crate::geometry::{Geometry, PAGE_LENGTH};
-use crate::refusal::{Answer, Refusal};
+use crate::geometry::Geometry;
+use crate::refusal::Answer;
 use crate::register;
 use std::sync::atomic::{fence, Ordering};
 
-/// A device whose event area and entry page are shared with a running guest. Its calls are those of [`Device`].
+/// A device whose event area and entry page are shared with a running guest. Its calls are those of [`Device`], and
+/// [`LiveDevice::device`] has the rest.
 #[derive(Debug)]
 pub struct LiveDevice<'a> {
     device: Device,
@@ -17,11 +18,11 @@ pub struct LiveDevice<'a> {
 }
 
 impl<'a> LiveDevice<'a> {
-    /// A device that is off, with no slot taken. Zeroes the shared pages; [`Refusal::Invalid`] where they have another length.
+    /// A device that is off, with no slot taken. Zeroes the shared pages; [`Invalid`] where they have another length.
+    ///
+    /// [`Invalid`]: crate::Refusal::Invalid
     pub fn new(geometry: Geometry, area: Shared<'a>, page: Shared<'a>) -> Answer<LiveDevice<'a>> {
-        if area.length() != geometry.area_length() || page.length() != PAGE_LENGTH {
-            return Err(Refusal::Invalid);
-        }
+        check_lengths(geometry, area, page)?;
         let device = Device::new(geometry);
         area.copy_out(0, device.area());
         page.copy_out(0, device.page());
@@ -50,11 +51,12 @@ impl<'a> LiveDevice<'a> {
 
     /// See [`Device::put_packet`].
     pub fn put_packet(&mut self, packet: &Packet) -> Answer<()> {
-        self.fetch();
-        let first = self.device.write_index();
-        self.device.put_packet(packet)?;
-        self.publish_records(first);
-        Ok(())
+        self.put(|device| device.put_packet(packet))
+    }
+
+    /// See [`Device::put_packet_bytes`].
+    pub fn put_packet_bytes(&mut self, slot: u32, events: &[u8]) -> Answer<()> {
+        self.put(|device| device.put_packet_bytes(slot, events))
     }
 
     /// See [`Device::add`].
@@ -81,6 +83,14 @@ impl<'a> LiveDevice<'a> {
     fn fetch(&mut self) {
         let index = self.area.load(READ_PTR, Ordering::Acquire);
         self.device.set_read_pointer(index);
+    }
+
+    fn put(&mut self, call: impl FnOnce(&mut Device) -> Answer<()>) -> Answer<()> {
+        self.fetch();
+        let first = self.device.write_index();
+        call(&mut self.device)?;
+        self.publish_records(first);
+        Ok(())
     }
 
     /// The entry comes before the record that tells of it.
@@ -113,9 +123,9 @@ impl<'a> LiveDevice<'a> {
     }
 
     /// A switch-on changes both pointers, and there is no way to store them at once: with only one of them new, old records would
-    /// look unread. So WRITE_PTR first becomes impossible, which keeps a driver that reads meanwhile from reading anything; the
-    /// fence has that seen before what follows. Then READ_PTR and the first records, in any order, and last the new WRITE_PTR, which
-    /// tells that all this is in place.
+    /// look unread. So WRITE_PTR first becomes impossible, which keeps a driver that looks meanwhile from reading anything; the fence
+    /// has that seen before what follows. Then READ_PTR and the first records, in any order, and last the new WRITE_PTR, which tells
+    /// that all this is in place.
     fn publish_restart(&self) {
         self.area.store(WRITE_PTR, CLOSED, Ordering::Relaxed);
         fence(Ordering::Release);

@@ -47,6 +47,21 @@ fn interleave(calls: u32, mut one: impl FnMut(), mut other: impl FnMut() + 'stat
     OTHER_END.set(None);
 }
 
+/// Makes a call of one end, and one of the other before that access of the first, counted from 1.
+fn interrupt<T>(access: u32, one: impl FnOnce() -> T, other: impl FnOnce() + 'static) -> T {
+    let mut accesses = 0;
+    let mut other = Some(other);
+    OTHER_END.set(Some(Box::new(move || {
+        accesses += 1;
+        if accesses == access {
+            other.take().expect("the only time")();
+        }
+    })));
+    let answer = one();
+    OTHER_END.set(None);
+    answer
+}
+
 /// Both ends' calls, one within the other.
 fn run<W: 'static, R: 'static>(
     writer: W,

@@ -34,7 +34,7 @@ pub struct LiveProducer<'a> {
 }
 
 impl<'a> LiveProducer<'a> {
-    /// At the begin of a ring whose page the guest has zeroed. [`Refusal::Invalid`] where it has another length.
+    /// At the start of a ring whose page the guest has zeroed. [`Refusal::Invalid`] where it has another length.
     pub fn new(producer: RingProducer, page: Shared<'a>) -> Answer<LiveProducer<'a>> {
         Ok(LiveProducer {
             producer,
@@ -78,7 +78,7 @@ pub struct LiveConsumer<'a> {
 }
 
 impl<'a> LiveConsumer<'a> {
-    /// At the begin of a ring whose page is zeros. [`Refusal::Invalid`] where it has another length.
+    /// At the start of a ring whose page is zeros. [`Refusal::Invalid`] where it has another length.
     pub fn new(consumer: RingConsumer, page: Shared<'a>) -> Answer<LiveConsumer<'a>> {
         Ok(LiveConsumer {
             consumer,

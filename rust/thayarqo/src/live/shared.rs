@@ -20,6 +20,7 @@ impl<'a> Shared<'a> {
     /// in no other way than by atomic words meanwhile. What other programs and guests do there is up to them.
     #[allow(unsafe_code)]
     pub unsafe fn from_raw(start: *mut u32, words: usize) -> Shared<'a> {
+        // SAFETY: the caller promises just this. An AtomicU32 is laid out as a u32, and may be changed behind a shared reference.
         Shared(unsafe { std::slice::from_raw_parts(start.cast(), words) })
     }
 

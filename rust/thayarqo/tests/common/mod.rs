@@ -1,7 +1,7 @@
-//! What the tests of live guests share: guarded memory, digests of logs, and numbers by chance.
+//! What the tests of live guests share: guarded memory, digests of logs, and random numbers.
 #![allow(dead_code, reason = "each test uses a part")]
 use std::sync::atomic::{AtomicBool, AtomicU32, Ordering};
-use thayarqo::live::{LiveDevice, Shared};
+use thayarqo::live::{LiveDevice, LiveDriver, Shared};
 use thayarqo::register::{CLIENT_REV, CONTROL, CONTROL_ON};
 use thayarqo::{Answer, Geometry, Packet};
 
@@ -29,6 +29,13 @@ impl Guarded {
 
     pub fn shared(&self, stretch: usize) -> Shared<'_> {
         Shared::new(self.words(stretch))
+    }
+
+    /// Both ends of a device on these pages.
+    pub fn both_ends(&self, geometry: Geometry) -> Answer<(LiveDevice<'_>, LiveDriver<'_>)> {
+        let device = LiveDevice::new(geometry, self.shared(0), self.shared(1))?;
+        let driver = LiveDriver::new(geometry, self.shared(0), self.shared(1))?;
+        Ok((device, driver))
     }
 
     pub fn is_whole(&self) -> bool {
@@ -108,10 +115,10 @@ impl Log {
     }
 }
 
-/// Numbers by chance, the same in each run (xorshift).
-pub struct Chance(pub u64);
+/// Random numbers, the same in each run (xorshift).
+pub struct Random(pub u64);
 
-impl Chance {
+impl Random {
     pub fn next(&mut self) -> u32 {
         self.0 ^= self.0 << 13;
         self.0 ^= self.0 >> 7;

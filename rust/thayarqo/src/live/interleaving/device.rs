@@ -1,8 +1,8 @@
 //! A device and a driver that interrupt each other.
-use super::{interleave, run, shared_words, Interrupted};
+use super::{interleave, interrupt, run, shared_words, Interrupted};
 use crate::codes::REL_X;
 use crate::live::{LiveDevice, LiveDriver};
-use crate::register::{CLIENT_REV, CONTROL, CONTROL_ON, REV};
+use crate::register::{CLIENT_REV, CONTROL, CONTROL_ON, READ_PTR, REV};
 use crate::{Answer, Entry, Event, Geometry, Packet, Refusal, Told, PAGE_LENGTH};
 use std::cell::RefCell;
 use std::rc::Rc;
@@ -189,4 +189,33 @@ fn a_restart_by_an_interrupted_host_is_whole() -> Answer<()> {
 #[test]
 fn a_restart_under_an_interrupted_guest_is_whole() -> Answer<()> {
     restart(Interrupted::Reader)
+}
+
+/// What the documentation warns of: from READ_PTR 0 the guest copies more records than a restart leaves, and doesn't notice it.
+#[test]
+fn a_restart_at_rest_mends_an_unnoticed_one() -> Answer<()> {
+    let (mut host, mut guest) = both_ends(Geometry::new(1, 8, 68)?)?;
+    (0..20).for_each(|_| host.put());
+    let host = Rc::new(RefCell::new(host));
+    let restarting = host.clone();
+    let mut out = [0; 8 * 40];
+    // Both pointers are loaded by then.
+    let copied = interrupt(
+        3,
+        || guest.driver.copy_out(40, &mut out),
+        move || {
+            restarting.borrow_mut().switch_on();
+        },
+    );
+    assert_eq!(copied, Ok(40));
+    let mut host = Rc::into_inner(host).expect("the closure is gone").into_inner();
+    assert_eq!(host.device.read(READ_PTR, 4), Ok(40));
+    assert_eq!(host.device.device().write_index(), 2);
+
+    host.switch_on();
+    guest.driver.restart();
+    host.put();
+    guest.read_all();
+    assert_eq!(guest.received, [Item::Start, Item::Packet(20)]);
+    Ok(())
 }

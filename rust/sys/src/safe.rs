@@ -1,17 +1,15 @@
-//! The calls of the library over slices: the one place where it is entered. Its proofs hold for any numbers and any lengths, so what
-//! makes these calls sound is that each buffer is a slice and that no two overlap.
-#![allow(unsafe_code)]
-use thayarqo_sys::{
-    self as sys, Closed, Copied, Device, Driver, Geometry, RingEvent, RingFound, Settings, Told, Value,
-};
+//! The calls over slices. The library's proofs hold for any numbers, any lengths and any states, so what makes these calls sound is
+//! that each buffer is a slice, that no two overlap, and that a bool is a bool.
+use crate::calls::*;
+use crate::{Closed, Copied, Device, Driver, Geometry, RingEvent, RingFound, Settings, Told, Value};
 
 pub fn fresh_device() -> Device {
-    unsafe { sys::thayarqo_fresh_device() }
+    unsafe { thayarqo_fresh_device() }
 }
 
 pub fn read(device: &Device, geometry: Geometry, area: &[u8], page: &[u8], offset: u64, width: u32) -> Value {
     unsafe {
-        sys::thayarqo_read(
+        thayarqo_read(
             device,
             geometry,
             area.as_ptr(),
@@ -33,13 +31,12 @@ pub fn write(
     width: u32,
     value: u32,
 ) -> u8 {
-    let (words, bytes) = (area.as_mut_ptr(), area.len());
     unsafe {
-        sys::thayarqo_write(
+        thayarqo_write(
             device,
             geometry,
-            words,
-            bytes,
+            area.as_mut_ptr(),
+            area.len(),
             page.as_ptr(),
             page.len(),
             offset,
@@ -57,9 +54,8 @@ pub fn put_packet(
     slot: u32,
     packet: &[u8],
 ) -> u8 {
-    let (from, length) = (packet.as_ptr(), packet.len());
     unsafe {
-        sys::thayarqo_put_packet(
+        thayarqo_put_packet(
             device,
             geometry,
             area.as_mut_ptr(),
@@ -67,16 +63,15 @@ pub fn put_packet(
             page.as_ptr(),
             page.len(),
             slot,
-            from.cast(),
-            length,
+            packet.as_ptr().cast(),
+            packet.len(),
         )
     }
 }
 
 pub fn add(device: &mut Device, geometry: Geometry, area: &mut [u8], page: &mut [u8], slot: u32, entry: &[u8]) -> u8 {
-    let (from, length) = (entry.as_ptr(), entry.len());
     unsafe {
-        sys::thayarqo_add(
+        thayarqo_add(
             device,
             geometry,
             area.as_mut_ptr(),
@@ -84,15 +79,15 @@ pub fn add(device: &mut Device, geometry: Geometry, area: &mut [u8], page: &mut 
             page.as_mut_ptr(),
             page.len(),
             slot,
-            from,
-            length,
+            entry.as_ptr(),
+            entry.len(),
         )
     }
 }
 
 pub fn remove(device: &mut Device, geometry: Geometry, area: &mut [u8], page: &mut [u8], slot: u32) -> u8 {
     unsafe {
-        sys::thayarqo_remove(
+        thayarqo_remove(
             device,
             geometry,
             area.as_mut_ptr(),
@@ -105,17 +100,17 @@ pub fn remove(device: &mut Device, geometry: Geometry, area: &mut [u8], page: &m
 }
 
 pub fn fresh_driver() -> Driver {
-    unsafe { sys::thayarqo_fresh_driver() }
+    unsafe { thayarqo_fresh_driver() }
 }
 
 pub fn step(driver: &mut Driver, geometry: Geometry, area: &mut [u8], packet: &mut [u8]) -> Told {
     let (events, length) = (packet.as_mut_ptr(), packet.len());
-    unsafe { sys::thayarqo_step(driver, geometry, area.as_mut_ptr(), area.len(), events.cast(), length) }
+    unsafe { thayarqo_step(driver, geometry, area.as_mut_ptr(), area.len(), events.cast(), length) }
 }
 
 pub fn copy_out(geometry: Geometry, area: &mut [u8], limit: u32, out: &mut [u8]) -> Copied {
     unsafe {
-        sys::thayarqo_copy_out(
+        thayarqo_copy_out(
             geometry,
             area.as_mut_ptr(),
             area.len(),
@@ -127,34 +122,34 @@ pub fn copy_out(geometry: Geometry, area: &mut [u8], limit: u32, out: &mut [u8])
 }
 
 pub fn lookup(geometry: Geometry, page: &[u8], slot: u32, out: &mut [u8]) -> u8 {
-    unsafe { sys::thayarqo_lookup(geometry, page.as_ptr(), page.len(), slot, out.as_mut_ptr(), out.len()) }
+    unsafe { thayarqo_lookup(geometry, page.as_ptr(), page.len(), slot, out.as_mut_ptr(), out.len()) }
 }
 
 pub fn ring_encode(out: &mut [u8], event: RingEvent) -> u8 {
-    unsafe { sys::thayarqo_ring_encode(out.as_mut_ptr(), out.len(), event) }
+    unsafe { thayarqo_ring_encode(out.as_mut_ptr(), out.len(), event) }
 }
 
 pub fn ring_decode(bytes: &[u8], contact_limit: u32) -> RingFound {
-    unsafe { sys::thayarqo_ring_decode(bytes.as_ptr(), bytes.len(), contact_limit) }
+    unsafe { thayarqo_ring_decode(bytes.as_ptr(), bytes.len(), contact_limit) }
 }
 
 pub fn ring_put(page: &mut [u8], in_prod: &mut u32, contact_limit: u32, event: &[u8]) -> u8 {
     let (from, length) = (event.as_ptr(), event.len());
-    unsafe { sys::thayarqo_ring_put(page.as_mut_ptr(), page.len(), in_prod, contact_limit, from, length) }
+    unsafe { thayarqo_ring_put(page.as_mut_ptr(), page.len(), in_prod, contact_limit, from, length) }
 }
 
 pub fn ring_take(page: &mut [u8], in_cons: &mut u32, contact_limit: u32) -> RingFound {
-    unsafe { sys::thayarqo_ring_take(page.as_mut_ptr(), page.len(), in_cons, contact_limit) }
+    unsafe { thayarqo_ring_take(page.as_mut_ptr(), page.len(), in_cons, contact_limit) }
 }
 
 pub fn fresh_settings() -> Settings {
-    unsafe { sys::thayarqo_fresh_settings() }
+    unsafe { thayarqo_fresh_settings() }
 }
 
 pub fn node(settings: &mut Settings, name: &[u8], value: &[u8]) -> u8 {
-    unsafe { sys::thayarqo_node(settings, name.as_ptr(), name.len(), value.as_ptr(), value.len()) }
+    unsafe { thayarqo_node(settings, name.as_ptr(), name.len(), value.as_ptr(), value.len()) }
 }
 
 pub fn close(settings: Settings) -> Closed {
-    unsafe { sys::thayarqo_close(settings) }
+    unsafe { thayarqo_close(settings) }
 }
