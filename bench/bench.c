@@ -56,13 +56,20 @@ static void print_times(struct times times)
     printf(" %.2f (%.2f to %.2f) |", times.median, times.fastest, times.ninth);
 }
 
+/* The ratio of the medians, and that of the fastest rounds, in which the machine's own noise is smallest. */
+static void print_ratio(struct times proved, struct times other)
+{
+    printf(" %.2f (%.2f) |", proved.median / other.median, proved.fastest / other.fastest);
+}
+
 static void print_row(const char *name, const struct competitor *competitors)
 {
     printf("| %s |", name);
     for (int i = 0; i < CONTESTANTS; i++)
         print_times(competitors[i].times);
-    printf(" %.2f | %.2f |\n", competitors[0].times.median / competitors[1].times.median,
-           competitors[0].times.median / competitors[2].times.median);
+    print_ratio(competitors[0].times, competitors[1].times);
+    print_ratio(competitors[0].times, competitors[2].times);
+    printf("\n");
 }
 
 static void measure_row(const char *name, work *work, struct thayarqo_geometry geometry, uint32_t slots, int rounds)
@@ -100,8 +107,10 @@ static void measure_copies(uint32_t record_size)
     printf("| %u |", record_size);
     for (int i = 0; i < count; i++)
         print_times(competitors[i].times);
-    printf("%s %.2f | %.2f |\n", count == 4 ? " |" : "", competitors[0].times.median / competitors[1].times.median,
-           competitors[0].times.median / competitors[3].times.median);
+    printf("%s", count == 4 ? " |" : "");
+    print_ratio(competitors[0].times, competitors[1].times);
+    print_ratio(competitors[0].times, competitors[3].times);
+    printf("\n");
 }
 
 static void measure_all_copies(void)
