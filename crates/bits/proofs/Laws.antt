@@ -4,11 +4,12 @@ use mathlib.Core.Path.{_≡_, sym, ap, _∙_}
 use mathlib.Core.Logic.{_≢_}
 use mathlib.Core.Bool.{true, false}
 use native.Mathlib.Omega.{arith}
-use native.Mathlib.Decide.{decLt}
+use native.Mathlib.Decide.{decLe, decLt}
 use native.Mathlib.Nat.{add-div-right, add-mul-div-right, div-eq-of-lt, div-add-mod', mod-lt, pow-suc, div-div-eq-div-mul, mul-le-mul-right, add-mul, div-lt-iff-lt-mul}
 use lib.Pow.{pow-pos, pow-add, pow-mono}
-use borrow.Author.Tests.{eqb-true, eqb-false, eq-eqb, ne-eqb}
-use Rattle.bits.specs.Bits.{bit, withBit, withoutBit}
+use lib.Dec.{leb, ltb}
+use borrow.Author.Tests.{eqb-true, eqb-false, eq-eqb, ne-eqb, le-leb, lt-leb, lt-ltb, le-ltb}
+use Rattle.bits.specs.Bits.{bit, withBit, withoutBit, IsLength}
 
 -- a clear bit is an even quotient, a set bit an odd one
 pub bit-clear : (mask index : ℕ) → bit mask index ≡ false → mask / 2 ^ index % 2 ≡ 0
@@ -95,3 +96,14 @@ module _ (mask index : ℕ) (set : bit mask index ≡ true) where
 
   pub clear-below : (limit : ℕ) → mask < 2 ^ limit → withoutBit mask index < 2 ^ limit
   clear-below limit h = omega (arith, clear-fits)
+
+-- ---- the length of a mask
+
+-- a length is at most a limit where no bit at or above the limit is set
+pub length-limit : (mask length limit : ℕ) → IsLength mask length → leb length limit ≡ ltb mask (2 ^ limit)
+length-limit mask length limit is = elim (decLe length limit) [
+  | yes low ↦ rw (le-leb length limit low, lt-ltb mask (2 ^ limit) (omega (arith, is .holds, pow-mono {i = length} {j = limit} low)))
+  | no high ↦
+      let more : 2 ^ suc limit ≤ 2 ^ length = pow-mono {i = suc limit} {j = length} (omega (arith, high)) in
+      rw (lt-leb length limit (omega (arith, high)), le-ltb mask (2 ^ limit) (omega (arith, is .least, more, pow-suc 2 limit)))
+]

@@ -2,8 +2,7 @@
 ghost use mathlib.Core.Path.{_≡_};
 ghost use mathlib.Core.Bool.{true, false};
 ghost use Prim.Native.Nat.{_^_, _<_, _≤_};
-ghost use lib.Dec.{ltb};
-ghost use Rattle.bits.specs.Bits.{bit, bitOf, withBit, withoutBit};
+ghost use Rattle.bits.specs.Bits.{bit, bitOf, withBit, withoutBit, IsLength};
 
 // Any index gets an answer: past the mask's width no bit is set.
 pub fn is_set(mask: u64, index: u32) -> bool
@@ -45,10 +44,9 @@ pub fn clear(mask: u64, index: u32) -> u64
     mask - power(index)
 }
 
-// Whether no bit at or above an index is set.
-pub fn is_below(mask: u64, index: u32) -> bool
-    requires { ⌜ index < 64 ⌝ }
-    ensures { λ r. ⌜ r ≡ ltb mask (2 ^ index) ⌝ }
+// How many bits a mask has up to its highest one that is set.
+pub fn length(mask: u64) -> u32
+    ensures { λ r. ⌜ IsLength mask r ⌝ }
 {
-    mask < power(index)
+    64 - u64::leading_zeros(mask)
 }

@@ -120,7 +120,7 @@ pub fn is_fitting(
     if write_index >= ring.length {
         return false;
     }
-    bits::is_below(taken, geometry::slot_count(geometry))
+    geometry::has_slots(geometry, bits::length(taken))
 }
 
 // Whether a call's geometry, lent lengths and state are right.

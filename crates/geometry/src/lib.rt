@@ -1,11 +1,8 @@
-// The sizes of a device, and what follows from them. Divisions by a size are avoided, since these
-// numbers are needed at every call.
+// The sizes of a device, and what follows from them. What every call needs is found without a division.
 ghost use mathlib.Core.Path.{_≡_};
 ghost use mathlib.Core.Bool.{true};
 ghost use Prim.Native.Nat.{_-_, _*_, _/_, _≤_, _<_};
-ghost use lib.Dec.{ltb};
-ghost use lib.ListN.{getD};
-ghost use Rattle.geometry.specs.SlotWords.{slotWords};
+ghost use lib.Dec.{leb, ltb};
 ghost use Rattle.geometry.specs.Geometry.{isRecordSize, isEntrySize, allowed, areaLength, barLength, ringOf, recordPlace, slotCount, entryPlace};
 
 pub const PAGE_LENGTH: usize = 4096;
@@ -76,17 +73,12 @@ pub fn bar_length(geometry: Geometry) -> u64
     (geometry.pages as u64 + 2) * 4096
 }
 
-// How many records a page holds is known for each allowed size.
+// Record sizes are powers of two, so a shift divides by them.
 fn ring_length(pages: u32, record_size: u32) -> u32
     requires { ⌜ (1 ≤ pages) × (pages ≤ 8) × (isRecordSize «record_size» ≡ true) ⌝ }
     ensures { λ r. ⌜ r ≡ pages * 4096 / «record_size» - 1 ⌝ }
 {
-    match record_size {
-        8 => pages * 512 - 1,
-        16 => pages * 256 - 1,
-        32 => pages * 128 - 1,
-        _ => pages * 64 - 1,
-    }
+    (pages * 4096 >> u32::trailing_zeros(record_size)) - 1
 }
 
 pub fn ring_of(geometry: Geometry) -> Ring
@@ -107,28 +99,20 @@ pub fn record_place(ring: Ring, index: u32) -> usize
     ring.record_size as usize * (index as usize + 1)
 }
 
-// How many entries of 68, 72, .. 256 bytes a page holds: a byte for each size, eight to a word, the smallest size lowest. An array
-// would be built anew at each call.
-fn slots_of_eight(word: u32) -> u64
-    requires { ⌜ word < 6 ⌝ }
-    ensures { λ r. ⌜ r ≡ getD slotWords word 0 ⌝ }
-{
-    match word {
-        0 => 0x2A2C_2E30_3335_383C,
-        1 => 0x2021_2223_2425_2728,
-        2 => 0x191A_1A1B_1C1D_1E1F,
-        3 => 0x1515_1616_1717_1818,
-        4 => 0x1212_1213_1314_1414,
-        _ => 0x1010_1010_1111_1111,
-    }
-}
-
+// Asked for at switch-on alone. Whether a slot is in range takes no division.
 pub fn slot_count(geometry: Geometry) -> u32
     requires { ⌜ allowed geometry ≡ true ⌝ }
     ensures { λ r. ⌜ r ≡ slotCount geometry ⌝ }
 {
-    let size = (geometry.entry_size - 68) / 4;
-    ((slots_of_eight(size / 8) >> (size % 8 * 8)) % 256) as u32
+    4096 / geometry.entry_size
+}
+
+// Whether there are so many slots: their entries end within the page.
+pub fn has_slots(geometry: Geometry, count: u32) -> bool
+    requires { ⌜ allowed geometry ≡ true ⌝ }
+    ensures { λ r. ⌜ r ≡ leb count (slotCount geometry) ⌝ }
+{
+    geometry.entry_size as u64 * count as u64 <= 4096
 }
 
 // The slot's entry ends within the page.

@@ -1,9 +1,10 @@
 -- What is known of an allowed geometry, in the form that arithmetic can use.
-use Prim.Native.Nat.{ℕ, _+_, _-_, _*_, _/_, _%_, _≤_, _<_}
+use Prim.Native.Nat.{ℕ, _+_, _-_, _*_, _/_, _%_, _^_, _≤_, _<_}
 use mathlib.Core.Path.{_≡_, refl, sym, subst}
 use mathlib.Core.Bool.{Bool, true, false, _&&_, _||_, false≢true}
 use native.Mathlib.Omega.{arith}
-use lib.Dec.{leb, eqb}
+use lib.Count.{trailingZeros}
+use lib.Dec.{leb, eqb, lit<}
 use borrow.Author.Tests.{leb-true, eqb-true}
 use Rattle.geometry.specs.Geometry.{isRecordSize, isEntrySize, allowed, areaLength, ringLength}
 use Rattle.geometry.specs.declared.Geometry.{Geometry}
@@ -28,14 +29,11 @@ record-sizes P size h p8 p16 p32 p64 = go (eqb size 8) (eqb size 16) (eqb size 3
     go false false false true ea eb ec ed k = at 64 ed p64
     go false false false false ea eb ec ed k = absurd (false≢true k)
 
--- a record size that is none of the three smaller ones
-pub widest : (size : ℕ) → isRecordSize size ≡ true → (size ≡ 8 → ⊥) → (size ≡ 16 → ⊥) → (size ≡ 32 → ⊥) → size ≡ 64
-widest size h =
-    record-sizes (λ n. (n ≡ 8 → ⊥) → (n ≡ 16 → ⊥) → (n ≡ 32 → ⊥) → n ≡ 64) size h
-    (λ a b c. absurd (a refl))
-    (λ a b c. absurd (b refl))
-    (λ a b c. absurd (c refl))
-    (λ a b c. refl)
+-- a record size is the power of two that its lowest zeros count
+pub record-power : (size : ℕ) → isRecordSize size ≡ true → (trailingZeros 32 size < 32) × (2 ^ trailingZeros 32 size ≡ size)
+unfolding trailingZeros
+record-power size h =
+    record-sizes (λ n. (trailingZeros 32 n < 32) × (2 ^ trailingZeros 32 n ≡ n)) size h (lit< tt, refl) (lit< tt, refl) (lit< tt, refl) (lit< tt, refl)
 
 -- the ring fills the area behind the place of the pointers
 RingShape : ℕ → ℕ → Type 0
@@ -44,6 +42,10 @@ RingShape pages size = (8 ≤ size) × (size ≤ 64) × (63 ≤ pages * 4096 / s
 ring-shape : (pages size : ℕ) → 1 ≤ pages → pages ≤ 8 → isRecordSize size ≡ true → RingShape pages size
 unfolding RingShape
 ring-shape pages size low high h = record-sizes (RingShape pages) size h (omega arith) (omega arith) (omega arith) (omega arith)
+
+-- a record fits the area
+pub ring-some : (pages size : ℕ) → 1 ≤ pages → isRecordSize size ≡ true → 1 ≤ pages * 4096 / size
+ring-some pages size some h = record-sizes (λ n. 1 ≤ pages * 4096 / n) size h (omega arith) (omega arith) (omega arith) (omega arith)
 
 pub record Sizes (geometry : Geometry) : Type 0 where
   pub some-pages : 1 ≤ geometry .pages
