@@ -4,7 +4,6 @@ mod packet;
 mod transition;
 
 pub use packet::PACKET_LENGTH;
-pub use packet::collect;
 use records::codes::NO_SLOT;
 pub use transition::receive;
 ghost use mathlib.Core.Path.{_≡_};

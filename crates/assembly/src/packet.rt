@@ -2,21 +2,29 @@
 use crate::Driver;
 use records::Event;
 ghost use mathlib.Core.Path.{_≡_};
-ghost use Prim.Native.Nat.{_≤_};
 ghost use lib.ListN.{length};
 ghost use Rattle.assembly.specs.Collect.{packetLength, collected};
+ghost use Rattle.assembly.specs.Transition.{joined};
 
 // Thirty-two events of eight bytes.
 pub const PACKET_LENGTH: usize = 256;
 
-// Writes an event behind those that are held, if the driver holds more after it.
-pub fn collect(before: Driver, after: Driver, event: Event, packet: &mut [u8])
-    requires { ⌜ (length (now packet) ≡ packetLength) × (after .held ≤ 32) ⌝ }
-    ensures { λ _. ⌜ now (packet .exit) ≡ collected before after event (now (packet .entry)) ⌝ }
+// An event joins the packet: it is written behind those that are held. Nothing is written while events are ignored, nor after the 32nd.
+pub(crate) fn join(driver: Driver, event: Event, packet: &mut [u8]) -> Driver
+    requires { ⌜ length (now packet) ≡ packetLength ⌝ }
+    ensures { λ r. ⌜ (r ≡ joined driver) × (now (packet .exit) ≡ collected driver (joined driver) event (now (packet .entry))) ⌝ }
 {
-    if before.held >= after.held {
-        return;
+    if driver.ignoring {
+        return driver;
     }
-    let at = before.held as usize * 8;
+    let mut after = driver;
+    let held = driver.held;
+    if held >= 32 {
+        after.overlong = true;
+        return after;
+    }
+    let at = held as usize * 8;
     records::encode(&mut packet[at..at + 8], event);
+    after.held = held + 1;
+    after
 }

@@ -4,14 +4,17 @@ use crate::Kind;
 use crate::Stepped;
 use crate::Told;
 use crate::classify::kind_of;
+use crate::packet::join;
 use answers::MALFORMED;
 use geometry::Geometry;
 use records::Event;
 use records::codes::NO_SLOT;
 ghost use mathlib.Core.Path.{_≡_};
 ghost use mathlib.Core.Bool.{true, false};
+ghost use lib.ListN.{length};
 ghost use Rattle.geometry.specs.Geometry.{allowed};
-ghost use Rattle.assembly.specs.Transition.{spoiled as spoiledOf, moved, ended, joined, reported, withoutSlot, tells, receive as receiveOf};
+ghost use Rattle.assembly.specs.Collect.{packetLength, collected};
+ghost use Rattle.assembly.specs.Transition.{spoiled as spoiledOf, moved, ended, reported, withoutSlot, tells, receive as receiveOf};
 
 // A packet already begun is spoiled.
 fn spoil(driver: Driver) -> Driver
@@ -41,22 +44,6 @@ fn end(driver: Driver, ignoring: bool) -> Driver
     after.overlong = false;
     after.spoiled = false;
     after.ignoring = ignoring;
-    after
-}
-
-fn join(driver: Driver) -> Driver
-    ensures { λ r. ⌜ r ≡ joined driver ⌝ }
-{
-    if driver.ignoring {
-        return driver;
-    }
-    let mut after = driver;
-    let held = after.held;
-    if held >= 32 {
-        after.overlong = true;
-        return after;
-    }
-    after.held = held + 1;
     after
 }
 
@@ -99,9 +86,10 @@ fn tell(told: Told, driver: Driver) -> Stepped
     }
 }
 
-pub fn receive(geometry: Geometry, driver: Driver, event: Event) -> Stepped
-    requires { ⌜ allowed geometry ≡ true ⌝ }
-    ensures { λ r. ⌜ r ≡ receiveOf geometry event driver ⌝ }
+// One record. An event that joins the packet is written behind those that are held.
+pub fn receive(geometry: Geometry, driver: Driver, event: Event, packet: &mut [u8]) -> Stepped
+    requires { ⌜ (allowed geometry ≡ true) × (length (now packet) ≡ packetLength) ⌝ }
+    ensures { λ r. ⌜ (r ≡ receiveOf geometry event driver) × (now (packet .exit) ≡ collected driver (receiveOf geometry event driver .driver) event (now (packet .entry))) ⌝ }
 {
     let kind = kind_of(geometry, event);
     let value = event.value;
@@ -114,6 +102,6 @@ pub fn receive(geometry: Geometry, driver: Driver, event: Event) -> Stepped
         Kind::DevResetAll => tell(Told::ResetAll, move_to(driver, NO_SLOT)),
         Kind::BadDevSet => tell(Told::Refused(MALFORMED), move_to(driver, NO_SLOT)),
         Kind::BadDev => tell(Told::Refused(MALFORMED), driver),
-        Kind::Other => tell(Told::Nothing, join(driver)),
+        Kind::Other => tell(Told::Nothing, join(driver, event, packet)),
     }
 }

@@ -9,7 +9,6 @@ use assembly::Driver;
 use assembly::PACKET_LENGTH;
 use assembly::Stepped;
 use assembly::Told;
-use assembly::collect;
 use assembly::receive;
 pub use copy::copy_out;
 use geometry::Geometry;
@@ -142,8 +141,5 @@ pub fn step(geometry: Geometry, driver: Driver, area: &mut [u8], packet: &mut [u
     };
     let next = records::next_index(ring, index);
     records::set_read_pointer(area, next);
-    let result = receive(geometry, driver, event);
-    let after = result.driver;
-    collect(driver, after, event, packet);
-    result
+    receive(geometry, driver, event, packet)
 }

@@ -1,11 +1,11 @@
 -- The ways out of a step, each with what is told and what stands in the area.
-use Prim.Native.Nat.{ℕ, _≤_}
+use Prim.Native.Nat.{ℕ}
 use mathlib.Core.Path.{_≡_, _∙_}
 use mathlib.Core.Bool.{true, false}
 use mathlib.Core.List.{List}
-use lib.Dec.{leb, eqb}
+use lib.Dec.{eqb}
 use lib.ListN.{length}
-use borrow.Author.Tests.{leb-true, eqb-true}
+use borrow.Author.Tests.{eqb-true}
 use Rattle.geometry.specs.declared.Geometry.{Geometry}
 use Rattle.geometry.specs.Geometry.{allowed, areaLength, ringOf}
 use Rattle.geometry.proofs.Laws.Allowed.{both}
@@ -18,7 +18,6 @@ use Rattle.assembly.specs.declared.Told.the-variants as told
 use Rattle.driver.specs.declared.Oldest.the-variants as oldest
 use Rattle.assembly.specs.Transition.{tells, receive}
 use Rattle.assembly.specs.Collect.{packetLength, collected}
-use Rattle.assembly.proofs.Laws.Held.{held-few}
 use Rattle.driver.specs.Reader.{isSized, oldestOf}
 use Rattle.driver.proofs.Laws.Reader.{sized}
 use Rattle.driver.specs.Step.{isDriver, isValid, stepOf}
@@ -27,7 +26,6 @@ pub record Valid (geometry : Geometry) (driver : Driver) (areaSize packetSize : 
   pub is-allowed : allowed geometry ≡ true
   pub is-sized : areaSize ≡ areaLength geometry
   pub holds-packet : packetSize ≡ packetLength
-  pub is-driver : isDriver geometry driver ≡ true
 
 pub valid : (geometry : Geometry) (driver : Driver) (areaSize packetSize : ℕ) → isValid geometry driver areaSize packetSize ≡ true → Valid geometry driver areaSize packetSize
 unfolding isValid
@@ -35,12 +33,7 @@ valid geometry driver areaSize packetSize h =
     let a = both (isSized geometry areaSize) _ h in
     let b = both (eqb packetSize packetLength) (isDriver geometry driver) (a .1) in
     let s = sized geometry areaSize (a .0) in
-    record { is-allowed = s .0; is-sized = s .1; holds-packet = eqb-true packetSize packetLength (b .0); is-driver = b .1 }
-
--- at most 32 events are held after a record, too
-pub valid-held : (geometry : Geometry) (driver : Driver) (event : Event) → isDriver geometry driver ≡ true → receive geometry event driver .driver .held ≤ 32
-unfolding isDriver
-valid-held geometry driver event h = held-few geometry event driver (leb-true (driver .held) 32 (both (leb (driver .held) 32) _ h .0))
+    record { is-allowed = s .0; is-sized = s .1; holds-packet = eqb-true packetSize packetLength (b .0) }
 
 -- What a step leaves is what the definition says.
 pub record Leaves (geometry : Geometry) (driver : Driver) (area packet : List ℕ) (result : Stepped) (area′ packet′ : List ℕ) : Type 0 where

@@ -9,7 +9,7 @@ use Rattle.driver.specs.Reader.{oldestOf}
 use Rattle.driver.specs.Step.{isValid}
 use Rattle.driver.proofs.Laws.Answer.{answered}
 use Rattle.driver.proofs.Laws.Reader.{oldest-index}
-use Rattle.driver.proofs.Laws.Step.{valid, valid-held, valid-holds, step-invalid, step-refused, step-received}
+use Rattle.driver.proofs.Laws.Step.{valid, valid-holds, step-invalid, step-refused, step-received}
 use borrow.Author.Needs.{needs}
 use Rattle.driver.proofs.step.Statement.{statement}
 use Rattle.driver.proofs.step.Tie as tie
@@ -64,12 +64,7 @@ set-read-pointer-requires : tie.Need-set-read-pointer-requires
 set-read-pointer-requires c κs = pointers-inside _ _ (valid-holds (c .before .before .before .before .before .before .before .before .before .before .before .before .args .geometry) (c .before .before .before .before .before .before .before .before .before .before .before .before .args .driver) (c .before .before .before .before .before .before .before .before .before .before .before .before .args .area .now) (c .before .before .before .before .before .before .before .before .before .before .before .before .args .packet .now) (known (c .before .before .before .before .before .before .before .before)))
 
 receive-requires : tie.Need-receive-requires
-receive-requires c κs = valid _ _ _ _ (known (c .before .before .before .before .before .before .before .before .before .before .before)) .is-allowed
-
-collect-requires : tie.Need-collect-requires
-collect-requires c κs =
-    let v = valid _ _ _ _ (known (c .before .before .before .before .before .before .before .before .before .before .before .before .before .before)) in
-    (v .holds-packet, rw (c .before .before .receive .ensures) (valid-held _ _ _ (v .is-driver)))
+receive-requires c κs = let v = valid _ _ _ _ (known (c .before .before .before .before .before .before .before .before .before .before .before .before)) in (v .is-allowed, v .holds-packet)
 
 same-length-2 : tie.Need-same-length-2
 same-length-2 c = search needs
@@ -79,12 +74,12 @@ same-length-3 c = search needs
 
 returns-3 : tie.Need-returns-3
 returns-3 c =
-    let a = c .before .before .before .before .before .before .before .before .before .before .before .before .before .before .before .before .before .before .before .before .before .args in
-    let received = c .before .before .before .before .before .receive .ensures in
+    let a = c .before .before .before .before .before .before .before .before .before .before .before .before .before .before .before .before .before .before .before .args in
+    let received = c .before .before .receive .ensures in
     answered (a .geometry) (a .driver) (a .area .now) (a .packet .now)
-    (step-received (a .geometry) (a .driver) (a .area .now) (a .packet .now) (known (c .before .before .before .before .before .before .before .before .before .before .before .before .before .before .before .before .before)) (sym (read (c .before .before .before .before .before .before .before .before .before .before .before .before .before .before)) ∙ c .before .before .before .before .before .before .before .before .before .before .before .before .oldest .given .1) received
-    (c .before .before .before .before .before .before .before .before .set-read-pointer .ensures ∙ rw (c .before .before .before .before .before .before .before .before .before .before .next-index .ensures, c .before .before .before .before .before .before .before .before .before .before .before .before .before .before .before .before .ring-of .ensures))
-    (c .before .before .collect .ensures ∙ rw received))
+    (step-received (a .geometry) (a .driver) (a .area .now) (a .packet .now) (known (c .before .before .before .before .before .before .before .before .before .before .before .before .before .before .before)) (sym (read (c .before .before .before .before .before .before .before .before .before .before .before .before)) ∙ c .before .before .before .before .before .before .before .before .before .before .oldest .given .1) (received .0)
+    (c .before .before .before .before .before .before .set-read-pointer .ensures ∙ rw (c .before .before .before .before .before .before .before .before .next-index .ensures, c .before .before .before .before .before .before .before .before .before .before .before .before .before .before .ring-of .ensures))
+    (received .1))
 
 pub step-spec : {M : Type 1} → statement M
 step-spec =
@@ -102,7 +97,6 @@ step-spec =
     next-index-requires
     set-read-pointer-requires
     receive-requires
-    collect-requires
     same-length-2
     same-length-3
     returns-3)

@@ -1,4 +1,10 @@
+use Prim.Native.Nat.{zero-le}
 use mathlib.Core.Path.{sym, _∙_}
+use native.Mathlib.Nat.{le-refl, le-of-eq}
+use Rattle.records.specs.Codes.{noSlot}
+use Rattle.assembly.specs.declared.Kind.the-variants as kind
+use Rattle.assembly.proofs.Laws.Collect.{none-joins}
+use Rattle.assembly.proofs.Laws.Held.{moved-held, without-held}
 use borrow.Author.Needs.{needs}
 use Rattle.assembly.proofs.transition.receive.Statement.{statement}
 use Rattle.assembly.proofs.transition.receive.Tie as tie
@@ -85,31 +91,61 @@ tell-requires-9 : tie.Need-tell-requires-9
 tell-requires-9 c κs = search needs
 
 returns : tie.Need-returns
-returns c = rw (sym (c .before .before .before .before .before .kind-of .ensures) ∙ c .before .before .before .enum-told .given .1, c .tell .ensures, c .before .before .report .ensures, c .before .end .ensures)
+returns c =
+    let a = c .before .before .before .before .before .before .before .args in
+    none-joins (a .geometry) (a .event) (a .driver) (a .packet .now) kind.SynReport (sym (c .before .before .before .before .before .kind-of .ensures) ∙ c .before .before .before .enum-told .given .1) zero-le
+    (c .tell .ensures ∙ rw (c .before .before .report .ensures, c .before .end .ensures))
 
 returns-2 : tie.Need-returns-2
-returns-2 c = rw (sym (c .before .before .before .before .kind-of .ensures) ∙ c .before .before .enum-told2 .given .1, c .tell2 .ensures, c .before .end2 .ensures)
+returns-2 c =
+    let a = c .before .before .before .before .before .before .args in
+    none-joins (a .geometry) (a .event) (a .driver) (a .packet .now) kind.SynDropped (sym (c .before .before .before .before .kind-of .ensures) ∙ c .before .before .enum-told2 .given .1) zero-le
+    (c .tell2 .ensures ∙ rw (c .before .end2 .ensures))
 
 returns-3 : tie.Need-returns-3
-returns-3 c = rw (sym (c .before .before .before .before .kind-of .ensures) ∙ c .before .before .enum-told3 .given .1, c .tell3 .ensures, c .before .move-to .ensures)
+returns-3 c =
+    let a = c .before .before .before .before .before .before .args in
+    none-joins (a .geometry) (a .event) (a .driver) (a .packet .now) kind.DevSet (sym (c .before .before .before .before .kind-of .ensures) ∙ c .before .before .enum-told3 .given .1) (le-of-eq (moved-held (a .event .value) (a .driver)))
+    (c .tell3 .ensures ∙ rw (c .before .move-to .ensures))
 
 returns-4 : tie.Need-returns-4
-returns-4 c = rw (sym (c .before .before .before .kind-of .ensures) ∙ c .before .enum-told4 .given .1, c .tell4 .ensures)
+returns-4 c =
+    let a = c .before .before .before .before .before .args in
+    none-joins (a .geometry) (a .event) (a .driver) (a .packet .now) kind.DevConf (sym (c .before .before .before .kind-of .ensures) ∙ c .before .enum-told4 .given .1) (le-refl _)
+    (c .tell4 .ensures)
 
 returns-5 : tie.Need-returns-5
-returns-5 c = rw (sym (c .before .before .before .before .kind-of .ensures) ∙ c .before .before .enum-told5 .given .1, c .tell5 .ensures, c .before .leave .ensures)
+returns-5 c =
+    let a = c .before .before .before .before .before .before .args in
+    none-joins (a .geometry) (a .event) (a .driver) (a .packet .now) kind.DevReset (sym (c .before .before .before .before .kind-of .ensures) ∙ c .before .before .enum-told5 .given .1) (le-of-eq (without-held _ _))
+    (c .tell5 .ensures ∙ rw (c .before .leave .ensures))
 
 returns-6 : tie.Need-returns-6
-returns-6 c = rw (sym (c .before .before .before .before .kind-of .ensures) ∙ c .before .before .enum-told6 .given .1, c .tell6 .ensures, c .before .move-to2 .ensures)
+returns-6 c =
+    let a = c .before .before .before .before .before .before .args in
+    none-joins (a .geometry) (a .event) (a .driver) (a .packet .now) kind.DevResetAll (sym (c .before .before .before .before .kind-of .ensures) ∙ c .before .before .enum-told6 .given .1) (le-of-eq (moved-held noSlot (a .driver)))
+    (c .tell6 .ensures ∙ rw (c .before .move-to2 .ensures))
 
 returns-7 : tie.Need-returns-7
-returns-7 c = rw (sym (c .before .before .before .before .kind-of .ensures) ∙ c .before .before .enum-told7 .given .1, c .tell7 .ensures, c .before .move-to3 .ensures)
+returns-7 c =
+    let a = c .before .before .before .before .before .before .args in
+    none-joins (a .geometry) (a .event) (a .driver) (a .packet .now) kind.BadDevSet (sym (c .before .before .before .before .kind-of .ensures) ∙ c .before .before .enum-told7 .given .1) (le-of-eq (moved-held noSlot (a .driver)))
+    (c .tell7 .ensures ∙ rw (c .before .move-to3 .ensures))
 
 returns-8 : tie.Need-returns-8
-returns-8 c = rw (sym (c .before .before .before .kind-of .ensures) ∙ c .before .enum-told8 .given .1, c .tell8 .ensures)
+returns-8 c =
+    let a = c .before .before .before .before .before .args in
+    none-joins (a .geometry) (a .event) (a .driver) (a .packet .now) kind.BadDev (sym (c .before .before .before .kind-of .ensures) ∙ c .before .enum-told8 .given .1) (le-refl _)
+    (c .tell8 .ensures)
+
+same-length : tie.Need-same-length
+same-length c = search needs
 
 returns-9 : tie.Need-returns-9
-returns-9 c = rw (sym (c .before .before .before .before .kind-of .ensures) ∙ c .before .before .enum-told9 .given .1, c .tell9 .ensures, c .before .join .ensures)
+returns-9 c =
+    let joins = c .before .before .before .join .ensures in
+    rw (sym (c .before .before .before .before .before .before .before .kind-of .ensures) ∙ c .before .before .before .before .before .enum-told9 .given .1)
+    (c .tell9 .ensures ∙ rw (joins .0), joins .1)
 
 pub receive-spec : {M : Type 1} → statement M
 receive-spec =
@@ -150,4 +186,5 @@ receive-spec =
     returns-6
     returns-7
     returns-8
+    same-length
     returns-9)
