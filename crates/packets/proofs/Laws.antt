@@ -1,4 +1,2 @@
-pub mod Events
 pub mod Offer
-pub mod Put
 pub mod Rule

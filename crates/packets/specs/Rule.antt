@@ -15,7 +15,8 @@ use Rattle.device.specs.declared.Outcome.{Outcome}
 use Rattle.device.specs.State.{isTaken}
 use Rattle.device.specs.Call.{isCall}
 use Rattle.device.specs.Room.{roomRefusals}
-use Rattle.packets.specs.Packet.{eventCount, isWhole, eventsOf, packetRecords, allOffered}
+use Rattle.packet_records.specs.Packet.{eventCount, eventsOf, packetRecords}
+use Rattle.packets.specs.Packet.{isWhole, allOffered}
 
 abbrev pub packetRefusals : Geometry → Device → List ℕ → List ℕ → ℕ → List ℕ → List (Bool × ℕ)
 packetRefusals geometry device area page slot packet =

@@ -1,6 +1,4 @@
 // A packet of events for a slot: refused, or put whole.
-mod put;
-
 use answers::BAD_INDEX;
 use answers::BAD_SLOT;
 use answers::DEVICE_OFF;
@@ -12,13 +10,14 @@ use answers::NOT_OFFERED;
 use device::Device;
 use device::Outcome;
 use geometry::Geometry;
-use put::put_packet;
-use put::record_count;
+use packet_records::put_packet;
+use packet_records::record_count;
 ghost use mathlib.Core.Path.{_≡_};
 ghost use mathlib.Core.Bool.{_||_, _&&_};
 ghost use lib.ListN.{length};
 ghost use Rattle.device.specs.Call.{isCall};
-ghost use Rattle.packets.specs.Packet.{isWhole, eventsOf, allOffered};
+ghost use Rattle.packet_records.specs.Packet.{eventsOf};
+ghost use Rattle.packets.specs.Packet.{isWhole, allOffered};
 ghost use Rattle.packets.specs.Rule.{packetAnswer, lostOutcome, afterPacket, packetOf};
 
 fn offers_all(entry: &[u8], packet: &[u8]) -> bool

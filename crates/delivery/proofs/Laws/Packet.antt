@@ -20,7 +20,7 @@ use Rattle.records.proofs.Laws.PutAll.{after-inside}
 use Rattle.entries.specs.Entry.{entryAt}
 use Rattle.device.specs.declared.Device.{Device}
 use Rattle.device.proofs.Laws.Call.{call as known, taken-slot}
-use Rattle.packets.specs.Packet.{eventCount, eventsOf, packetRecords}
+use Rattle.packet_records.specs.Packet.{eventCount, eventsOf, packetRecords}
 use Rattle.packets.specs.Rule.{packetRefusals, packetAnswer, withLost, afterPacket, packetOf}
 use Rattle.packets.proofs.Laws.Rule.{accepted}
 use Rattle.delivery.specs.World.{World, Result, numbered, packet, call}

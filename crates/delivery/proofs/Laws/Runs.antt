@@ -19,7 +19,8 @@ use Rattle.assembly.specs.declared.Kind.the-variants as kind
 use Rattle.assembly.specs.Kind.{kindOf}
 use Rattle.assembly.specs.Run.{Run}
 use Rattle.assembly.proofs.Laws.Run.{run-append, run-none}
-use Rattle.packets.specs.Packet.{lostRecords, setRecords, recordsFor, allOffered}
+use Rattle.packet_records.specs.Packet.{lostRecords, setRecords, recordsFor}
+use Rattle.packets.specs.Packet.{allOffered}
 use Rattle.delivery.specs.Log.{Item, whole, gapIf}
 use Rattle.delivery.proofs.Laws.Holding.{Holding, Leads, give, dropping, join, report, drop-gives, drop-next, report-gap, set-slot}
 

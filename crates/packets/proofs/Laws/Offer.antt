@@ -9,7 +9,7 @@ use lib.Seq.{drop-cons}
 use Rattle.records.specs.declared.Event.{Event}
 use Rattle.entries.specs.Offer.{isOffered}
 use Rattle.packets.specs.Packet.{allOffered}
-use Rattle.packets.proofs.Laws.Events.{none}
+use Rattle.packet_records.proofs.Laws.Events.{none}
 
 -- the events before `i` are offered, so the rest decides
 module _ (entry : List ℕ) (events : List Event) (i : ℕ) (low : i < length events) (passed : allOffered entry (drop i events) ≡ allOffered entry events) where

@@ -17,7 +17,8 @@ use Rattle.device.specs.declared.Device.{Device}
 use Rattle.device.specs.declared.Outcome.{Outcome}
 use Rattle.device.specs.State.{isTaken}
 use Rattle.device.proofs.Laws.Call.{Call, call}
-use Rattle.packets.specs.Packet.{eventCount, eventsOf, packetRecords, allOffered}
+use Rattle.packet_records.specs.Packet.{eventCount, eventsOf, packetRecords}
+use Rattle.packets.specs.Packet.{allOffered}
 use Rattle.packets.specs.Rule.{packetAnswer, lostOutcome, afterPacket, packetOf}
 
 pub record Accepted (geometry : Geometry) (device : Device) (area page : List ℕ) (slot : ℕ) (packet : List ℕ) : Type 0 where

@@ -3,8 +3,9 @@ use mathlib.Core.Path.{_≡_, refl, sym, _∙_}
 use native.Mathlib.Omega.{arith}
 use lib.ListN.{drop}
 use borrow.Author.Tests.{not-true, not-false}
-use Rattle.packets.specs.Packet.{eventsOf, allOffered}
-use Rattle.packets.proofs.Laws.Events.{counted, event-inside, event-of}
+use Rattle.packet_records.specs.Packet.{eventsOf}
+use Rattle.packets.specs.Packet.{allOffered}
+use Rattle.packet_records.proofs.Laws.Events.{counted, event-inside, event-of}
 use Rattle.packets.proofs.Laws.Offer.{offered-next, not-offered, all-offered}
 use Rattle.packets.proofs.offers_all.Statement.{statement}
 use Rattle.packets.proofs.offers_all.Tie as tie

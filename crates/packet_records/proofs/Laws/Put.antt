@@ -12,8 +12,8 @@ use Rattle.records.specs.Ring.{Holds, nextIndex, putRecord}
 use Rattle.records.specs.Put.{putRecords, indexAfter, Put}
 use Rattle.records.proofs.Laws.PutAll.{put-one, put-ready}
 use Rattle.device.specs.declared.Device.{Device}
-use Rattle.packets.specs.Packet.{eventCount, lostRecords, setRecords, packetRecords}
-use Rattle.packets.proofs.Laws.Events.{counted}
+use Rattle.packet_records.specs.Packet.{eventCount, lostRecords, setRecords, packetRecords}
+use Rattle.packet_records.proofs.Laws.Events.{counted}
 
 -- how many records a packet takes
 pub records-count : (device : Device) (slot : ℕ) (packet : List ℕ) {lost set : ℕ}

@@ -1,8 +1,8 @@
 use borrow.Author.Tests.{not-true, not-false}
 use Rattle.records.proofs.Laws.PutAll.{put-none, put-one, put-next, put-ready}
 use borrow.Author.Needs.{needs}
-use Rattle.packets.proofs.put.put_lost.Statement.{statement}
-use Rattle.packets.proofs.put.put_lost.Tie as tie
+use Rattle.packet_records.proofs.put_lost.Statement.{statement}
+use Rattle.packet_records.proofs.put_lost.Tie as tie
 
 returns : tie.Need-returns
 returns c = rw (not-true (c .before .before .args .lost) (c .if1 .taken)) (put-none _ _ _)

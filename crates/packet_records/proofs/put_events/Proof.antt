@@ -1,11 +1,11 @@
 use Prim.Native.Nat.{_-_}
 use mathlib.Core.Path.{sym, _∙_}
 use native.Mathlib.Omega.{arith}
-use Rattle.packets.specs.Packet.{eventsOf}
-use Rattle.packets.proofs.Laws.Events.{none, counted, event-inside, event-of}
-use Rattle.packets.proofs.Laws.Put.{Turn, turn-begins, turn-goes-on, turn-ends}
-use Rattle.packets.proofs.put.put_events.Statement.{statement}
-use Rattle.packets.proofs.put.put_events.Tie as tie
+use Rattle.packet_records.specs.Packet.{eventsOf}
+use Rattle.packet_records.proofs.Laws.Events.{none, counted, event-inside, event-of}
+use Rattle.packet_records.proofs.Laws.Put.{Turn, turn-begins, turn-goes-on, turn-ends}
+use Rattle.packet_records.proofs.put_events.Statement.{statement}
+use Rattle.packet_records.proofs.put_events.Tie as tie
 
 abbrev Inv-loop : tie.InvT-loop
 Inv-loop ring area₀ index packet count at₀ i₀ area at i = Turn ring index (eventsOf packet) area₀ area at i

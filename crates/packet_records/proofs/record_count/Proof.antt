@@ -1,7 +1,7 @@
-use Rattle.packets.proofs.Laws.Put.{records-count}
+use Rattle.packet_records.proofs.Laws.Put.{records-count}
 use borrow.Author.Needs.{needs}
-use Rattle.packets.proofs.put.record_count.Statement.{statement}
-use Rattle.packets.proofs.put.record_count.Tie as tie
+use Rattle.packet_records.proofs.record_count.Statement.{statement}
+use Rattle.packet_records.proofs.record_count.Tie as tie
 
 cast-count : tie.Need-cast-count
 cast-count c = search needs

@@ -1,7 +1,7 @@
 use borrow.Author.Tests.{eq-eqb, ne-eqb}
 use native.Mathlib.Omega.{arith}
-use Rattle.packets.proofs.put.set_count.Statement.{statement}
-use Rattle.packets.proofs.put.set_count.Tie as tie
+use Rattle.packet_records.proofs.set_count.Statement.{statement}
+use Rattle.packet_records.proofs.set_count.Tie as tie
 
 returns : tie.Need-returns
 returns c = (rw (eq-eqb _ _ (c .if1 .taken)), omega arith)

@@ -1,8 +1,8 @@
 use borrow.Author.Tests.{eq-eqb, ne-eqb}
 use Rattle.records.proofs.Laws.PutAll.{put-none, put-one}
 use borrow.Author.Needs.{needs}
-use Rattle.packets.proofs.put.put_set.Statement.{statement}
-use Rattle.packets.proofs.put.put_set.Tie as tie
+use Rattle.packet_records.proofs.put_set.Statement.{statement}
+use Rattle.packet_records.proofs.put_set.Tie as tie
 
 returns : tie.Need-returns
 returns c = rw (eq-eqb _ _ (c .if1 .taken)) (put-none _ _ _)

@@ -11,7 +11,7 @@ ghost use Prim.Native.Nat.{_≤_, _<_};
 ghost use lib.ListN.{length};
 ghost use Rattle.records.specs.Ring.{Holds};
 ghost use Rattle.records.specs.Put.{Put};
-ghost use Rattle.packets.specs.Packet.{eventCount, eventsOf, lostRecords, setRecords, packetRecords};
+ghost use Rattle.packet_records.specs.Packet.{eventCount, eventsOf, lostRecords, setRecords, packetRecords};
 
 fn lost_count(lost: bool) -> u32
     ensures { λ r. ⌜ (r ≡ length (lostRecords lost)) × (r ≤ 2) ⌝ }
@@ -31,7 +31,7 @@ fn set_count(current: u32, slot: u32) -> u32
     1
 }
 
-pub(crate) fn record_count(device: Device, slot: u32, packet: &[u8]) -> u32
+pub fn record_count(device: Device, slot: u32, packet: &[u8]) -> u32
     requires { ⌜ eventCount (now packet) ≤ 32 ⌝ }
     ensures { λ r. ⌜ r ≡ length (packetRecords device slot (now (packet .entry))) ⌝ }
 {
@@ -74,13 +74,7 @@ fn put_events(ring: Ring, area: &mut [u8], index: u32, packet: &[u8]) -> u32
     at
 }
 
-pub(crate) fn put_packet(
-    ring: Ring,
-    area: &mut [u8],
-    device: Device,
-    slot: u32,
-    packet: &[u8],
-) -> u32
+pub fn put_packet(ring: Ring, area: &mut [u8], device: Device, slot: u32, packet: &[u8]) -> u32
     requires { ⌜ (Holds (length (now area)) ring) × (device .«write_index» < ring .length) ⌝ }
     ensures { λ r. ⌜ Put ring (device .«write_index») (packetRecords device slot (now (packet .entry))) (now (area .entry)) (now (area .exit)) r ⌝ }
 {

@@ -1,7 +1,7 @@
 use Rattle.records.proofs.Laws.PutAll.{put-one, put-next, put-ready}
 use borrow.Author.Needs.{needs}
-use Rattle.packets.proofs.put.put_packet.Statement.{statement}
-use Rattle.packets.proofs.put.put_packet.Tie as tie
+use Rattle.packet_records.proofs.put_packet.Statement.{statement}
+use Rattle.packet_records.proofs.put_packet.Tie as tie
 
 put-lost-requires : tie.Need-put-lost-requires
 put-lost-requires c κs = search needs

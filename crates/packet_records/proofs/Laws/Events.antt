@@ -7,7 +7,7 @@ use lib.ListN.{length, getD}
 use Rattle.records.specs.declared.Event.{Event}
 use Rattle.records.specs.Event.{eventAt}
 use Rattle.records.proofs.Laws.Events.{events-length, event-number}
-use Rattle.packets.specs.Packet.{eventCount, eventsOf}
+use Rattle.packet_records.specs.Packet.{eventCount, eventsOf}
 
 -- what stands past the end of a list
 abbrev pub none : Event
