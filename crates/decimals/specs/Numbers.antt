@@ -4,6 +4,7 @@ use Prim.Native.Nat.{ℕ, suc, _+_, _-_, _*_}
 use mathlib.Core.Bool.{Bool, not, cond, _&&_, _||_}
 use mathlib.Core.List.{List, [], _∷_}
 use lib.Dec.{ltb, eqb}
+use Rattle.answers.specs.Answers.{done, badSetting}
 use Rattle.decimals.specs.declared.Number.{Number}
 use Rattle.decimals.specs.declared.Number.the-variants.{Value, Bad}
 
@@ -44,3 +45,8 @@ readRest place value (byte ∷ rest) = unlessBad (nextNumber place value byte) (
 unfoldable pub readNumber : List ℕ → Number
 readNumber [] = Bad 0
 readNumber (byte ∷ rest) = readRest 0 0 (byte ∷ rest)
+
+-- 01's number of each: a text that says a number is 0, a bad one 12.
+abbrev pub answerOf : Number → ℕ
+answerOf (Value value) = done
+answerOf (Bad place) = badSetting

@@ -6,7 +6,7 @@ use mathlib.Core.List.{List, [], _∷_}
 use lib.Dec.{ltb, eqb}
 use Rattle.answers.specs.Answers.{done, badSetting}
 use Rattle.decimals.specs.declared.Number.{Number}
-use Rattle.decimals.specs.Numbers.{readNumber}
+use Rattle.decimals.specs.Numbers.{readNumber, answerOf}
 use Rattle.node_names.specs.declared.FlagName.{FlagName}
 use Rattle.node_names.specs.declared.NumberName.{NumberName}
 use Rattle.node_names.specs.declared.Node.{Node}
@@ -30,20 +30,28 @@ unfoldable pub readFlag : List ℕ → Flag
 readFlag [] = Flag.Bad 0
 readFlag (byte ∷ rest) = cond (noFlag byte) (Flag.Bad 0) (flagEnds rest (eqb byte 49))
 
-abbrev pub accepted : Settings → NodeAnswer
-accepted settings = record { answer = done; settings = settings }
+-- 01's number of each: a text that says a flag is 0, a bad one 12.
+abbrev pub flagAnswer : Flag → ℕ
+flagAnswer (Flag.Value value) = done
+flagAnswer (Flag.Bad place) = badSetting
 
-abbrev pub refused : Settings → NodeAnswer
-refused settings = record { answer = badSetting; settings = settings }
+-- A bad value changes nothing.
+abbrev pub withFlagRead : Settings → FlagName → Flag → Settings
+withFlagRead settings name (Flag.Value value) = withFlag settings name value
+withFlagRead settings name (Flag.Bad place) = settings
 
--- A value that is bad changes nothing.
+abbrev pub withNumberRead : Settings → NumberName → Number → Settings
+withNumberRead settings name (Number.Value value) = withNumber settings name value
+withNumberRead settings name (Number.Bad place) = settings
+
 unfoldable pub afterFlag : Settings → FlagName → Flag → NodeAnswer
-afterFlag settings name (Flag.Value value) = accepted (withFlag settings name value)
-afterFlag settings name (Flag.Bad place) = refused settings
+afterFlag settings name flag = record { answer = flagAnswer flag; settings = withFlagRead settings name flag }
 
 unfoldable pub afterNumber : Settings → NumberName → Number → NodeAnswer
-afterNumber settings name (Number.Value value) = accepted (withNumber settings name value)
-afterNumber settings name (Number.Bad place) = refused settings
+afterNumber settings name number = record { answer = answerOf number; settings = withNumberRead settings name number }
+
+abbrev pub accepted : Settings → NodeAnswer
+accepted settings = record { answer = done; settings = settings }
 
 -- Other nodes are ignored, whatever their value.
 unfoldable pub afterNode : Settings → Node → List ℕ → NodeAnswer
