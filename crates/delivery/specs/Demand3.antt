@@ -24,7 +24,7 @@ use Rattle.records.specs.Unread.{SameToDriver}
 use Rattle.entries.specs.Lookup.{lookupAnswer, lookupPart, SameToDriver as SamePages}
 use Rattle.assembly.specs.declared.Driver.{Driver}
 use Rattle.driver.specs.Step.{isValid, stepOf}
-use Rattle.driver.specs.CopyOut.{copyOf}
+use Rattle.copy_out.specs.CopyOut.{copyOf}
 use Rattle.device.specs.Call.{isCall}
 use Rattle.delivery.specs.World.{World, Call, write, call}
 use Rattle.delivery.specs.Log.{Entry, Item, logOf, after, received, sent, numberIn, endsWithNothingToRead}

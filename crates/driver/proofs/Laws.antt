@@ -1,6 +1,4 @@
 pub mod Answer
-pub mod CopyOut
-pub mod CopyResult
 pub mod Reader
 pub mod Step
 pub mod Unknown

@@ -1,4 +1,3 @@
 pub mod Reader
 pub mod Step
 pub mod Answer
-pub mod CopyOut

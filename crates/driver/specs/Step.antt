@@ -17,7 +17,8 @@ use Rattle.records.specs.Codes.{noSlot, unknownSlot}
 use Rattle.assembly.specs.Kind.{isSlot}
 use Rattle.assembly.specs.Transition.{tells, receive}
 use Rattle.assembly.specs.Collect.{packetLength, collected}
-use Rattle.driver.specs.Reader.{isSized, oldestOf}
+use Rattle.reading.specs.Reading.{isSized}
+use Rattle.driver.specs.Reader.{oldestOf}
 
 -- At most 32 events are held, and the slot is none, unknown or in range.
 unfoldable pub isDriver : Geometry → Driver → Bool

@@ -1,18 +1,15 @@
-// The guest's reader of the event area: one record a step, or several copied out.
-mod copy;
-
-use answers::BAD_INDEX;
+// The guest's reader of the event area: one record a step.
 use answers::DONE;
 use answers::INVALID;
-use answers::NOTHING_TO_READ;
 use assembly::Driver;
 use assembly::PACKET_LENGTH;
 use assembly::Stepped;
 use assembly::Told;
 use assembly::receive;
-pub use copy::copy_out;
 use geometry::Geometry;
 use geometry::Ring;
+use reading::is_sized;
+use reading::reading_refusal;
 use records::Event;
 use records::codes::NO_SLOT;
 use records::codes::UNKNOWN_SLOT;
@@ -21,7 +18,7 @@ ghost use mathlib.Core.Bool.{true};
 ghost use lib.ListN.{length};
 ghost use Rattle.geometry.specs.Geometry.{allowed};
 ghost use Rattle.records.specs.Ring.{Holds};
-ghost use Rattle.driver.specs.Reader.{isSized, readingRefusal, oldestOf, refusalOf};
+ghost use Rattle.driver.specs.Reader.{oldestOf, refusalOf};
 ghost use Rattle.assembly.specs.Transition.{answerOf};
 ghost use Rattle.driver.specs.Answer.{stepAnswer};
 ghost use Rattle.driver.specs.Step.{isDriver, isValid, stepOf};
@@ -30,13 +27,6 @@ ghost use Rattle.driver.specs.Step.{isDriver, isValid, stepOf};
 pub enum Oldest {
     Record { index: u32, event: Event },
     Refused(u8),
-}
-
-// What a copy-out answers, and how many records it copied.
-#[repr(C)]
-pub struct Copied {
-    pub answer: u8,
-    pub count: u32,
 }
 
 fn is_driver(geometry: Geometry, driver: Driver) -> bool
@@ -56,15 +46,6 @@ fn is_driver(geometry: Geometry, driver: Driver) -> bool
     geometry::is_slot(geometry, slot)
 }
 
-pub(crate) fn is_sized(geometry: Geometry, size: usize) -> bool
-    ensures { λ r. ⌜ r ≡ isSized geometry size ⌝ }
-{
-    if !geometry::is_allowed(geometry) {
-        return false;
-    }
-    size == geometry::area_length(geometry)
-}
-
 fn is_valid(geometry: Geometry, driver: Driver, area_size: usize, packet_size: usize) -> bool
     ensures { λ r. ⌜ r ≡ isValid geometry driver «area_size» «packet_size» ⌝ }
 {
@@ -75,21 +56,6 @@ fn is_valid(geometry: Geometry, driver: Driver, area_size: usize, packet_size: u
         return false;
     }
     is_driver(geometry, driver)
-}
-
-pub(crate) fn reading_refusal(ring: Ring, read: u32, write: u32) -> u8
-    ensures { λ r. ⌜ r ≡ readingRefusal ring read write ⌝ }
-{
-    if read >= ring.length {
-        return BAD_INDEX;
-    }
-    if write >= ring.length {
-        return BAD_INDEX;
-    }
-    if read == write {
-        return NOTHING_TO_READ;
-    }
-    DONE
 }
 
 // Each pointer is fetched once: what was tested is what is used.

@@ -3,12 +3,12 @@ use answers::DONE;
 use answers::INVALID;
 use assembly::Driver;
 use assembly::Told;
-use driver::Copied;
+use copy_out::Copied;
 use geometry::Geometry;
 ghost use mathlib.Core.Path.{_≡_};
 ghost use Rattle.assembly.specs.Transition.{freshDriver};
 ghost use Rattle.driver.specs.Step.{stepOf};
-ghost use Rattle.driver.specs.CopyOut.{copyOf};
+ghost use Rattle.copy_out.specs.CopyOut.{copyOf};
 ghost use Rattle.driver_calls.specs.Entry.{copyAnswer, copiedEntry};
 ghost use Rattle.driver_calls.specs.Told.{numbersOf, steppedOf};
 
@@ -114,7 +114,7 @@ pub extern "C" fn thayarqo_copy_out(
 ) -> Copied
     ensures { λ r. ⌜ (r ≡ copyOf geometry (now (area .entry)) limit (now (out .entry)) .copied) × (now (area .exit) ≡ copyOf geometry (now (area .entry)) limit (now (out .entry)) .area) × (now (out .exit) ≡ copyOf geometry (now (area .entry)) limit (now (out .entry)) .out) ⌝ }
 {
-    driver::copy_out(geometry, area, limit, out)
+    copy_out::copy_out(geometry, area, limit, out)
 }
 
 #[no_mangle]

@@ -3,7 +3,8 @@ use mathlib.Core.Path.{_≡_, refl, sym, ap, _∙_}
 use mathlib.Core.Bool.{Bool, true, false}
 use mathlib.Core.List.{List, [], _∷_, _++_, append-nil, append-assoc}
 use Rattle.geometry.specs.declared.Geometry.{Geometry}
-use Rattle.driver.proofs.Laws.Unknown.{same-step, same-copy}
+use Rattle.driver.proofs.Laws.Unknown.{same-step}
+use Rattle.copy_out.proofs.Laws.Unknown.{same-copy}
 use Rattle.entries.proofs.Laws.Lookup.{same-lookup}
 use Rattle.delivery.specs.World.{World, Call, read, write, add, remove, packet, step, call}
 use Rattle.delivery.specs.Log.{Item, Entry, logOf, after, receivedIn, received, sentFrom, sent, endsWithNothingToReadFrom}

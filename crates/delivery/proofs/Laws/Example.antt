@@ -15,7 +15,8 @@ use Rattle.entries.specs.Offer.{offersCode, isOffered}
 use Rattle.assembly.specs.Kind.{devKind, kindOf}
 use Rattle.assembly.specs.Transition.{spoiled, joined, reported, withoutSlot}
 use Rattle.assembly.specs.Collect.{collected}
-use Rattle.driver.specs.Reader.{isSized, readingRefusal, oldestOf}
+use Rattle.reading.specs.Reading.{isSized, readingRefusal}
+use Rattle.driver.specs.Reader.{oldestOf}
 use Rattle.driver.specs.Step.{isDriver, isValid, stepOf}
 use Rattle.device.specs.State.{clientRevRule, currentRule, isDevice}
 use Rattle.device.specs.Call.{isSized as sizedCall, isCall}

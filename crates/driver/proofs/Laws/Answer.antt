@@ -17,7 +17,8 @@ use Rattle.assembly.specs.declared.Kind.{Kind}
 use Rattle.assembly.specs.declared.Kind.the-variants.{SynReport, SynDropped, DevSet, DevConf, DevReset, DevResetAll, BadDevSet, BadDev, Other}
 use Rattle.assembly.specs.Kind.{kindOf}
 use Rattle.assembly.specs.Transition.{answerOf, reported, received}
-use Rattle.driver.specs.Reader.{readingRefusal, oldestOf}
+use Rattle.reading.specs.Reading.{readingRefusal}
+use Rattle.driver.specs.Reader.{oldestOf}
 use Rattle.driver.specs.Step.{isValid, stepOf}
 use Rattle.driver.specs.Answer.{isMalformed, stepAnswer}
 use Rattle.driver.proofs.Laws.Step.{Leaves}

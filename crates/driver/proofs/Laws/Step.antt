@@ -18,8 +18,9 @@ use Rattle.assembly.specs.declared.Told.the-variants as told
 use Rattle.driver.specs.declared.Oldest.the-variants as oldest
 use Rattle.assembly.specs.Transition.{tells, receive}
 use Rattle.assembly.specs.Collect.{packetLength, collected}
-use Rattle.driver.specs.Reader.{isSized, oldestOf}
-use Rattle.driver.proofs.Laws.Reader.{sized}
+use Rattle.reading.specs.Reading.{isSized}
+use Rattle.reading.proofs.Laws.{sized}
+use Rattle.driver.specs.Reader.{oldestOf}
 use Rattle.driver.specs.Step.{isDriver, isValid, stepOf}
 
 pub record Valid (geometry : Geometry) (driver : Driver) (areaSize packetSize : ℕ) : Type 0 where

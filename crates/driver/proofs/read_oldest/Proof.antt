@@ -1,5 +1,6 @@
 use mathlib.Core.Path.{sym, _∙_}
-use Rattle.driver.proofs.Laws.Reader.{possible, oldest-refused, oldest-read}
+use Rattle.reading.proofs.Laws.{possible}
+use Rattle.driver.proofs.Laws.Reader.{oldest-refused, oldest-read}
 use borrow.Author.Needs.{needs}
 use Rattle.driver.proofs.read_oldest.Statement.{statement}
 use Rattle.driver.proofs.read_oldest.Tie as tie

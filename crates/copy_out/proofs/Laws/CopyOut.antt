@@ -1,4 +1,4 @@
--- Records copied out: the loop, and the ways out of a copy-out.
+-- Records copied out: the loop, and its two runs.
 use Prim.Native.Nat.{ℕ, zero, suc, _+_, _-_, _*_, _%_, _≤_, _<_}
 use mathlib.Core.Path.{_≡_, refl, sym, ap, _∙_}
 use mathlib.Core.List.{List, _++_, append-assoc}
@@ -13,7 +13,7 @@ use Rattle.geometry.specs.declared.Ring.{Ring}
 use Rattle.geometry.specs.Geometry.{recordPlace}
 use Rattle.records.specs.Ring.{Holds}
 use Rattle.records.proofs.Laws.Place.{place-inside}
-use Rattle.driver.specs.CopyOut.{recordBytes, bytesFrom}
+use Rattle.copy_out.specs.CopyOut.{recordBytes, bytesFrom}
 
 module _ (ring : Ring) (area : List ℕ) (holds : Holds (length area) ring) where
   bytes-length : (index : ℕ) → 0 < ring .length → length (recordBytes ring area index) ≡ 8

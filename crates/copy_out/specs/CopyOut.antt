@@ -12,8 +12,8 @@ use Rattle.geometry.specs.declared.Geometry.{Geometry}
 use Rattle.geometry.specs.declared.Ring.{Ring}
 use Rattle.geometry.specs.Geometry.{ringOf, recordPlace}
 use Rattle.records.specs.Ring.{readPointer, writePointer, withReadPointer, unreadCount}
-use Rattle.driver.specs.declared.Copied.{Copied}
-use Rattle.driver.specs.Reader.{isSized, readingRefusals}
+use Rattle.reading.specs.Reading.{isSized, readingRefusals}
+use Rattle.copy_out.specs.declared.Copied.{Copied}
 
 -- The first 8 bytes of the record at an index, which counts round the ring.
 abbrev pub recordBytes : Ring → List ℕ → ℕ → List ℕ

@@ -6,12 +6,12 @@ use native.Mathlib.Nat.{mod-lt}
 use lib.ListN.{length}
 use borrow.Author.Tests.{not-true, not-false}
 use Rattle.records.proofs.Laws.Place.{pointers-inside}
-use Rattle.driver.specs.Reader.{isSized}
-use Rattle.driver.proofs.Laws.Reader.{sized, sized-holds, Possible, possible}
-use Rattle.driver.proofs.Laws.CopyResult.{copy-invalid, copy-refused, copy-done}
+use Rattle.reading.specs.Reading.{isSized}
+use Rattle.reading.proofs.Laws.{sized, sized-holds, Possible, possible}
+use Rattle.copy_out.proofs.Laws.CopyResult.{copy-invalid, copy-refused, copy-done}
 use borrow.Author.Needs.{needs}
-use Rattle.driver.proofs.copy.copy_out.Statement.{statement}
-use Rattle.driver.proofs.copy.copy_out.Tie as tie
+use Rattle.copy_out.proofs.copy_out.Statement.{statement}
+use Rattle.copy_out.proofs.copy_out.Tie as tie
 
 -- the area of a call that goes on has its length
 known : (c : tie.Else1) → isSized (c .before .before .before .before .args .geometry) (length (c .before .before .before .before .args .area .now)) ≡ true

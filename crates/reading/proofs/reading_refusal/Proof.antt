@@ -1,8 +1,8 @@
 use Rattle.answers.specs.Refusals.{firstRefusal}
-use Rattle.driver.specs.Reader.{readingRefusal}
+use Rattle.reading.specs.Reading.{readingRefusal}
 use borrow.Author.Tests.{eq-eqb, le-leb, lt-leb, ne-eqb}
-use Rattle.driver.proofs.reading_refusal.Statement.{statement}
-use Rattle.driver.proofs.reading_refusal.Tie as tie
+use Rattle.reading.proofs.reading_refusal.Statement.{statement}
+use Rattle.reading.proofs.reading_refusal.Tie as tie
 
 returns : tie.Need-returns
 unfolding readingRefusal firstRefusal

@@ -1,8 +1,8 @@
 use native.Mathlib.Omega.{arith}
-use Rattle.driver.proofs.Laws.CopyOut.{one-run, two-runs, both-copied}
+use Rattle.copy_out.proofs.Laws.CopyOut.{one-run, two-runs, both-copied}
 use borrow.Author.Needs.{needs}
-use Rattle.driver.proofs.copy.copy_records.Statement.{statement}
-use Rattle.driver.proofs.copy.copy_records.Tie as tie
+use Rattle.copy_out.proofs.copy_records.Statement.{statement}
+use Rattle.copy_out.proofs.copy_records.Tie as tie
 
 sub-until : tie.Need-sub-until
 sub-until c = search needs

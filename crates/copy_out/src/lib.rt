@@ -1,18 +1,24 @@
 // Copy-out: the oldest records, several at a time.
-use crate::Copied;
-use crate::is_sized;
-use crate::reading_refusal;
 use answers::DONE;
 use answers::INVALID;
 use geometry::Geometry;
 use geometry::Ring;
+use reading::is_sized;
+use reading::reading_refusal;
 ghost use mathlib.Core.Path.{_≡_};
 ghost use Prim.Native.Nat.{_+_, _*_, _%_, _≤_, _<_, min};
 ghost use lib.ListN.{length};
 ghost use Rattle.words.specs.Words.{overwrite};
 ghost use Rattle.geometry.specs.Geometry.{ringOf};
 ghost use Rattle.records.specs.Ring.{Holds, readPointer, unreadCount};
-ghost use Rattle.driver.specs.CopyOut.{bytesFrom, refusedCopy, copyOf};
+ghost use Rattle.copy_out.specs.CopyOut.{bytesFrom, refusedCopy, copyOf};
+
+// What a copy-out answers, and how many records it copied.
+#[repr(C)]
+pub struct Copied {
+    pub answer: u8,
+    pub count: u32,
+}
 
 fn smaller(left: usize, right: usize) -> usize
     ensures { λ r. ⌜ (r ≡ min left right) × (r ≤ left) × (r ≤ right) ⌝ }

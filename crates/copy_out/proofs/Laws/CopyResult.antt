@@ -14,10 +14,10 @@ use Rattle.geometry.specs.Geometry.{ringOf}
 use Rattle.records.specs.Ring.{readPointer, writePointer, withReadPointer, unreadCount}
 use Rattle.records.proofs.Laws.Index.{unread-unique, unread-below}
 use Rattle.records.proofs.Laws.Put.{moved-read-pointer}
-use Rattle.driver.specs.declared.Copied.{Copied}
-use Rattle.driver.specs.Reader.{isSized, readingRefusal}
-use Rattle.driver.specs.CopyOut.{bytesFrom, copyAnswer, refusedCopy, copyOf}
-use Rattle.driver.proofs.Laws.Reader.{possible, sized-holds}
+use Rattle.reading.specs.Reading.{isSized, readingRefusal}
+use Rattle.reading.proofs.Laws.{possible, sized-holds}
+use Rattle.copy_out.specs.declared.Copied.{Copied}
+use Rattle.copy_out.specs.CopyOut.{bytesFrom, copyAnswer, refusedCopy, copyOf}
 
 -- what a copy-out promises of its result, the area and the output afterwards
 abbrev pub Promise : Geometry → List ℕ → ℕ → List ℕ → Copied → List ℕ → List ℕ → Type 0

@@ -1,8 +1,8 @@
 use native.Mathlib.Omega.{arith}
 use borrow.Author.Needs.{needs}
-use Rattle.driver.proofs.Laws.CopyOut.{Turn, turn-begins, record-inside, turn-goes-on, turn-ends}
-use Rattle.driver.proofs.copy.copy_run.Statement.{statement}
-use Rattle.driver.proofs.copy.copy_run.Tie as tie
+use Rattle.copy_out.proofs.Laws.CopyOut.{Turn, turn-begins, record-inside, turn-goes-on, turn-ends}
+use Rattle.copy_out.proofs.copy_run.Statement.{statement}
+use Rattle.copy_out.proofs.copy_run.Tie as tie
 
 abbrev Inv-loop : tie.InvT-loop
 Inv-loop ring area first count out₀ place₀ at₀ left₀ out place at left = Turn ring area first count out₀ out place at left

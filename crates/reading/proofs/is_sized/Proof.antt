@@ -1,9 +1,9 @@
 use borrow.Author.Tests.{not-true, not-false}
-use Rattle.driver.specs.Reader.{isSized}
+use Rattle.reading.specs.Reading.{isSized}
 use mathlib.Core.Path.{sym, _∙_}
 use borrow.Author.Needs.{needs}
-use Rattle.driver.proofs.is_sized.Statement.{statement}
-use Rattle.driver.proofs.is_sized.Tie as tie
+use Rattle.reading.proofs.is_sized.Statement.{statement}
+use Rattle.reading.proofs.is_sized.Tie as tie
 
 is-allowed-requires : tie.Need-is-allowed-requires
 is-allowed-requires c κs = search needs

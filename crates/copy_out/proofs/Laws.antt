@@ -1,0 +1,3 @@
+pub mod CopyOut
+pub mod CopyResult
+pub mod Unknown
