@@ -12,7 +12,7 @@ use Rattle.device.specs.declared.Device.{Device}
 use Rattle.packets.specs.Rule.{PacketResult, packetAnswer, packetOf}
 use Rattle.switch_on.specs.SwitchOn.{WriteResult}
 use Rattle.registers.specs.Write.{writeOf}
-use Rattle.kbdif.specs.Page.{eventPlace}
+use Rattle.kbdif_page.specs.Page.{eventPlace}
 use Rattle.cases.specs.Setting.{sizes, fine, coarse, page, off, on, area, motions, absolute}
 
 pub record Case : Type 0 where

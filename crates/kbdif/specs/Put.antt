@@ -9,8 +9,8 @@ use Rattle.answers.specs.Refusals.{firstRefusal}
 use Rattle.words.specs.Words.{overwrite}
 use Rattle.kbdif_events.specs.Event.{eventLength}
 use Rattle.kbdif_decode.specs.Decode.{decoded, mayBePut}
+use Rattle.kbdif_page.specs.Page.{pageLength, ringLength, inConsOf, withInProd, nextIndex, distance, eventPlace, isContactLimit}
 use Rattle.kbdif.specs.declared.Stored.{Stored}
-use Rattle.kbdif.specs.Page.{pageLength, ringLength, inConsOf, withInProd, nextIndex, distance, eventPlace, isContactLimit}
 
 -- The order of refusals: 1, 9, 10, and 7 at exactly 51.
 abbrev pub putRefusals : List ℕ → ℕ → ℕ → List ℕ → List (Bool × ℕ)

@@ -7,27 +7,17 @@ use answers::NO_ROOM;
 use answers::NOTHING_TO_READ;
 use kbdif_decode::Decoded;
 use kbdif_events::EVENT_LENGTH;
+use kbdif_page::IN_CONS;
+use kbdif_page::IN_PROD;
+use kbdif_page::PAGE_LENGTH;
+use kbdif_page::RING_LENGTH;
 ghost use mathlib.Core.Path.{_≡_};
-ghost use Prim.Native.Nat.{_+_, _≤_};
 ghost use lib.ListN.{length};
 ghost use Rattle.answers.specs.Refusals.{firstRefusal};
 ghost use Rattle.kbdif_events.specs.Event.{eventLength};
 ghost use Rattle.kbdif_decode.specs.Decode.{numberOf};
-ghost use Rattle.kbdif.specs.Page.{pageLength, nextIndex, distance, eventPlace, isContactLimit};
 ghost use Rattle.kbdif.specs.Put.{putRefusals, putOf};
 ghost use Rattle.kbdif.specs.Take.{waitingRefusals, takeNumber, takeOf};
-
-pub const PAGE_LENGTH: usize = 4096;
-
-// Bytes of the page: the two indices, and the first event.
-pub const IN_CONS: usize = 0;
-
-const IN_PROD: usize = 4;
-
-const EVENTS: usize = 1024;
-
-// How many events the ring holds.
-const RING_LENGTH: u32 = 51;
 
 // A put's answer, and the private in_prod after it.
 pub struct Stored {
@@ -41,33 +31,6 @@ pub struct Taken {
     pub in_cons: u32,
 }
 
-pub fn next_index(index: u32) -> u32
-    ensures { λ r. ⌜ r ≡ nextIndex index ⌝ }
-{
-    std::num::wrapping_add_u32(index, 1)
-}
-
-fn distance(in_prod: u32, in_cons: u32) -> u32
-    ensures { λ r. ⌜ r ≡ distance «in_prod» «in_cons» ⌝ }
-{
-    std::num::wrapping_sub_u32(in_prod, in_cons)
-}
-
-pub fn event_place(index: u32) -> usize
-    ensures { λ r. ⌜ (r ≡ eventPlace index) × (r + eventLength ≤ pageLength) ⌝ }
-{
-    EVENTS + (index % RING_LENGTH) as usize * EVENT_LENGTH
-}
-
-pub fn is_contact_limit(limit: u32) -> bool
-    ensures { λ r. ⌜ r ≡ isContactLimit limit ⌝ }
-{
-    if limit < 1 {
-        return false;
-    }
-    limit <= 32
-}
-
 fn put_refusal(page: &[u8], in_prod: u32, contact_limit: u32, event: &[u8]) -> u8
     ensures { λ r. ⌜ r ≡ firstRefusal (putRefusals (now (page .entry)) «in_prod» «contact_limit» (now (event .entry))) ⌝ }
 {
@@ -77,14 +40,14 @@ fn put_refusal(page: &[u8], in_prod: u32, contact_limit: u32, event: &[u8]) -> u
     if event.len() != EVENT_LENGTH {
         return INVALID;
     }
-    if !is_contact_limit(contact_limit) {
+    if !kbdif_page::is_contact_limit(contact_limit) {
         return INVALID;
     }
     if !kbdif_decode::may_be_put(event, contact_limit) {
         return MALFORMED;
     }
     // The front end may move its index at any time, so a call reads it once.
-    let used = distance(in_prod, words::read_u32(page, IN_CONS));
+    let used = kbdif_page::distance(in_prod, words::read_u32(page, IN_CONS));
     if used > RING_LENGTH {
         return BAD_INDEX;
     }
@@ -114,9 +77,9 @@ pub fn put(page: &mut [u8], in_prod: u32, contact_limit: u32, event: &[u8]) -> S
     if answer != DONE {
         return Stored { answer, in_prod };
     }
-    let at = event_place(in_prod);
+    let at = kbdif_page::event_place(in_prod);
     store(&mut page[at..at + EVENT_LENGTH], event);
-    let next = next_index(in_prod);
+    let next = kbdif_page::next_index(in_prod);
     words::write_u32(page, IN_PROD, next);
     Stored {
         answer: DONE,
@@ -131,11 +94,11 @@ pub fn take_refusal(page: &[u8], in_cons: u32, contact_limit: u32) -> u8
     if page.len() != PAGE_LENGTH {
         return INVALID;
     }
-    if !is_contact_limit(contact_limit) {
+    if !kbdif_page::is_contact_limit(contact_limit) {
         return INVALID;
     }
     // The back end may move its index at any time, so a call reads it once.
-    let unread = distance(words::read_u32(page, IN_PROD), in_cons);
+    let unread = kbdif_page::distance(words::read_u32(page, IN_PROD), in_cons);
     if unread > RING_LENGTH {
         return BAD_INDEX;
     }
@@ -156,9 +119,9 @@ pub fn take(page: &mut [u8], in_cons: u32, contact_limit: u32) -> Taken
             in_cons,
         };
     }
-    let at = event_place(in_cons);
+    let at = kbdif_page::event_place(in_cons);
     let found = kbdif_decode::decode(&page[at..at + EVENT_LENGTH], contact_limit);
-    let next = next_index(in_cons);
+    let next = kbdif_page::next_index(in_cons);
     words::write_u32(page, IN_CONS, next);
     Taken {
         found,

@@ -1,10 +1,10 @@
 -- The event that 40 bytes hold, and when they are badly formed (01, "kbdif ring and nodes").
-use Prim.Native.Nat.{ℕ, _+_, _-_, _*_}
+use Prim.Native.Nat.{ℕ, _+_, _*_}
 use mathlib.Core.Bool.{Bool, true, false, not, _&&_, cond}
 use mathlib.Core.List.{List, [], _∷_}
 use lib.Dec.{leb, ltb, eqb}
 use lib.IntN.{ℤ}
-use lib.ListN.{length, getD, take, drop}
+use lib.ListN.{length, getD}
 use mir.Syntax.{w16, w32}
 use Rattle.answers.specs.Answers.{done, malformed}
 use Rattle.answers.specs.Refusals.{firstRefusal}
@@ -14,7 +14,7 @@ use Rattle.kbdif_decode.specs.declared.Decoded.{Decoded}
 use Rattle.kbdif_decode.specs.declared.Decoded.the-variants.{Event, Refused}
 use Rattle.kbdif_events.specs.declared.RingEvent.{RingEvent}
 use Rattle.kbdif_events.specs.declared.RingEvent.the-variants.{Motion, Key, Pos, TouchDown, TouchUp, TouchMotion, TouchSyn, TouchShape, TouchOrient, Unknown}
-use Rattle.kbdif_events.specs.Event.{eventLength, layoutOf, contactOf, known}
+use Rattle.kbdif_events.specs.Event.{eventLength, between, layoutOf, contactOf, known}
 
 -- Eight bytes as one number.
 abbrev pub u64At : List ℕ → ℕ → ℕ
@@ -72,10 +72,6 @@ extentOf event =
 unfoldable pub allZero : List ℕ → Bool
 allZero [] = true
 allZero (byte ∷ rest) = eqb byte 0 && allZero rest
-
--- The bytes from one place up to another.
-abbrev pub between : List ℕ → ℕ → ℕ → List ℕ
-between bytes from until = take (until - from) (drop from bytes)
 
 -- The bytes between the head and the fields, and after the fields.
 abbrev pub zeroOutside : List ℕ → ℕ → ℕ → ℕ → Bool

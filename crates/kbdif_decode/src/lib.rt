@@ -16,8 +16,8 @@ ghost use Prim.Native.Nat.{_+_, _≤_};
 ghost use mathlib.Core.Bool.{_&&_};
 ghost use lib.ListN.{length, getD};
 ghost use Rattle.answers.specs.Refusals.{firstRefusal};
-ghost use Rattle.kbdif_events.specs.Event.{eventLength, contactOf};
-ghost use Rattle.kbdif_decode.specs.Decode.{i32At, u64At, touchAt, eventAt, allZero, between, zeroOutside, reservedIsZero, pressedAboveOne, eventRefusals, numberOf, decoded, mayBePut};
+ghost use Rattle.kbdif_events.specs.Event.{eventLength, between, contactOf};
+ghost use Rattle.kbdif_decode.specs.Decode.{i32At, u64At, touchAt, eventAt, allZero, zeroOutside, reservedIsZero, pressedAboveOne, eventRefusals, numberOf, decoded, mayBePut};
 
 pub enum Decoded {
     Event(RingEvent),

@@ -3,7 +3,7 @@ use Prim.Native.Nat.{ℕ, _+_, _-_}
 use mathlib.Core.Bool.{Bool, true, false, cond}
 use mathlib.Core.List.{List, [], _∷_, _++_}
 use lib.IntN.{ℤ}
-use lib.ListN.{length, replicate}
+use lib.ListN.{length, take, drop, replicate}
 use mir.Syntax.{w8, w16, w32}
 use mir.Val.{Fits, SFits}
 use Rattle.words.specs.Words.{u16Bytes, u32Bytes}
@@ -16,6 +16,10 @@ eventLength = 40
 
 abbrev pub zeros : ℕ → List ℕ
 zeros count = replicate count 0
+
+-- The bytes from one place up to another.
+abbrev pub between : List ℕ → ℕ → ℕ → List ℕ
+between bytes from until = take (until - from) (drop from bytes)
 
 -- The bytes of a signed field, in two's complement.
 abbrev pub i32Bytes : ℤ → List ℕ

@@ -11,9 +11,9 @@ use Rattle.answers.specs.Answers.{done, invalid, malformed, badIndex, noRoom}
 use Rattle.answers.specs.Refusals.{firstRefusal}
 use Rattle.words.specs.Words.{overwrite}
 use Rattle.kbdif_decode.specs.Decode.{eventAt, eventRefusals, decoded, mayBePut}
-use Rattle.kbdif.specs.Page.{ringLength, inConsOf, withInProd, nextIndex, distance, eventPlace, eventBytesAt}
+use Rattle.kbdif_page.specs.Page.{ringLength, inConsOf, withInProd, nextIndex, distance, eventPlace, eventBytesAt}
+use Rattle.kbdif_page.proofs.Laws.Page.{put-length, put-moved, put-cons, put-same, put-other}
 use Rattle.kbdif.specs.Put.{putRefusals, putAnswered}
-use Rattle.kbdif.proofs.Laws.Page.{put-length, put-moved, put-cons, put-same, put-other}
 use Rattle.kbdif.proofs.Laws.Put.{Accepted, accepted}
 use Rattle.kbdif_order.specs.Order.{Ring, putting, after, put, entryOf, isSound}
 use Rattle.kbdif_order.proofs.Waiting.{waitingIn, one-more, same-events, Good, near}

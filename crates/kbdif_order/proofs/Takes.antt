@@ -14,9 +14,9 @@ use Rattle.answers.proofs.Laws.{passed, refused}
 use Rattle.kbdif_decode.specs.Decode.{eventAt, eventRefusals, answered}
 use Rattle.kbdif_decode.specs.declared.Decoded.{Decoded}
 use Rattle.kbdif_decode.specs.declared.Decoded.the-variants.{Event, Refused}
-use Rattle.kbdif.specs.Page.{pageLength, ringLength, inProdOf, withInCons, nextIndex, distance, eventBytesAt, isContactLimit}
+use Rattle.kbdif_page.specs.Page.{pageLength, ringLength, inProdOf, withInCons, nextIndex, distance, eventBytesAt, isContactLimit}
+use Rattle.kbdif_page.proofs.Laws.Page.{cons-length, cons-moved, cons-prod, cons-event}
 use Rattle.kbdif.specs.Take.{takeNumber, foundBy, takeAnswered}
-use Rattle.kbdif.proofs.Laws.Page.{cons-length, cons-moved, cons-prod, cons-event}
 use Rattle.kbdif_order.specs.Order.{Ring, taking, after, took, isNothingToRead, entryOf, isSound}
 use Rattle.kbdif_order.proofs.Waiting.{eventsFrom, waitingIn, same-events, Good, near}
 

@@ -9,7 +9,7 @@ use Rattle.answers.specs.Answers.{done}
 use Rattle.answers.specs.Refusals.{firstRefusal}
 use Rattle.kbdif_events.specs.declared.RingEvent.{RingEvent}
 use Rattle.kbdif_decode.specs.Decode.{eventAt, eventRefusals}
-use Rattle.kbdif.specs.Page.{pageLength, ringLength, inConsOf, inProdOf, distance, eventBytesAt}
+use Rattle.kbdif_page.specs.Page.{pageLength, ringLength, inConsOf, inProdOf, distance, eventBytesAt}
 use Rattle.kbdif_order.specs.Order.{Ring, fresh}
 
 -- so many events from an index on

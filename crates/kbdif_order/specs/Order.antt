@@ -17,7 +17,7 @@ use Rattle.kbdif_events.specs.declared.RingEvent.{RingEvent}
 use Rattle.kbdif_decode.specs.Decode.{eventAt}
 use Rattle.kbdif_decode.specs.declared.Decoded.{Decoded}
 use Rattle.kbdif_decode.specs.declared.Decoded.the-variants.{Event, Refused}
-use Rattle.kbdif.specs.Page.{pageLength}
+use Rattle.kbdif_page.specs.Page.{pageLength}
 use Rattle.kbdif.specs.Put.{putOf}
 use Rattle.kbdif.specs.Take.{takeOf}
 

@@ -9,7 +9,7 @@ use Rattle.answers.specs.Refusals.{firstRefusal}
 use Rattle.kbdif_events.specs.Event.{eventLength, eventBytes, known}
 use Rattle.kbdif_decode.specs.Decode.{eventAt, eventRefusals, answered}
 use Rattle.kbdif_decode.specs.declared.Decoded.{Decoded}
-use Rattle.kbdif.specs.Page.{isContactLimit}
+use Rattle.kbdif_page.specs.Page.{isContactLimit}
 use Rattle.ring_numbers.specs.Numbers.{noNumbers, eventOf, found}
 use Rattle.ring_numbers.specs.declared.RingNumbers.{RingNumbers}
 use Rattle.ring_numbers.specs.declared.FoundNumbers.{FoundNumbers}

@@ -2,7 +2,6 @@
 use answers::DONE;
 use answers::INVALID;
 use answers::MALFORMED;
-use kbdif::IN_CONS;
 use kbdif_decode::Decoded;
 use kbdif_decode::i32_at;
 use kbdif_events::DOWN;
@@ -16,6 +15,7 @@ use kbdif_events::POS;
 use kbdif_events::SHAPE;
 use kbdif_events::SYN;
 use kbdif_events::UP;
+use kbdif_page::IN_CONS;
 use ring_numbers::FoundNumbers;
 use ring_numbers::RingNumbers;
 use ring_numbers::convert::key_numbers;
@@ -57,7 +57,7 @@ fn decoded(bytes: &[u8], contact_limit: u32) -> Decoded
     if bytes.len() != EVENT_LENGTH {
         return Decoded::Refused(INVALID);
     }
-    if !kbdif::is_contact_limit(contact_limit) {
+    if !kbdif_page::is_contact_limit(contact_limit) {
         return Decoded::Refused(INVALID);
     }
     kbdif_decode::decode(bytes, contact_limit)
@@ -242,9 +242,9 @@ pub extern "C" fn thayarqo_ring_take(
     if answer != DONE {
         return ring_numbers::refused(answer);
     }
-    let at = kbdif::event_place(index);
+    let at = kbdif_page::event_place(index);
     // The index moves before the event is read, so that the result isn't held meanwhile.
-    let next = kbdif::next_index(index);
+    let next = kbdif_page::next_index(index);
     words::write_u32(page, IN_CONS, next);
     *in_cons = next;
     found_at(&page[at..at + EVENT_LENGTH], contact_limit)

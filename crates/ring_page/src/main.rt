@@ -1,19 +1,18 @@
 // Puts an event of each kind on a page of the keyboard ring and prints the page, for tests/kbdif.test to compare with
 // Xen's header.
-use kbdif::PAGE_LENGTH;
 use kbdif_events::EVENT_LENGTH;
 use kbdif_events::RingEvent;
+use kbdif_page::IN_CONS;
+use kbdif_page::PAGE_LENGTH;
 use libc::STDOUT_FILENO;
 ghost use mathlib.Core.Path.{_≡_};
 ghost use lib.ListN.{length};
-ghost use Rattle.kbdif.specs.Page.{pageLength};
+ghost use Rattle.kbdif_page.specs.Page.{pageLength};
 
 // Both indices at first: the fourth event then goes to place 0.
 const START: u32 = 48;
 
 // in_cons stands at the page's first byte, and in_prod after it.
-const IN_CONS: usize = 0;
-
 const INDICES_LENGTH: usize = 8;
 
 const CONTACT_LIMIT: u32 = 32;

@@ -13,7 +13,7 @@ use Rattle.answers.proofs.Laws.{none-holds}
 use Rattle.words.specs.Words.{overwrite}
 use Rattle.kbdif_events.specs.Event.{eventLength}
 use Rattle.kbdif_decode.specs.Decode.{decoded, mayBePut}
-use Rattle.kbdif.specs.Page.{pageLength, ringLength, inConsOf, withInProd, nextIndex, distance, eventPlace, isContactLimit}
+use Rattle.kbdif_page.specs.Page.{pageLength, ringLength, inConsOf, withInProd, nextIndex, distance, eventPlace, isContactLimit}
 use Rattle.kbdif.specs.Put.{putRefusals, putAnswered, putOf}
 
 module _ (page : List ℕ) (inProd contactLimit : ℕ) (event : List ℕ) where

@@ -10,14 +10,14 @@ use borrow.Author.Tests.{eq-eqb, ne-eqb, eqb-true, not-false}
 use Rattle.answers.specs.Answers.{done, invalid, malformed, badIndex, nothingToRead}
 use Rattle.answers.specs.Refusals.{firstRefusal}
 use Rattle.answers.proofs.Laws.{none-holds}
-use Rattle.kbdif_events.specs.Event.{eventLength}
+use Rattle.kbdif_events.specs.Event.{eventLength, between}
 use Rattle.kbdif_events.specs.declared.RingEvent.{RingEvent}
-use Rattle.kbdif_decode.specs.Decode.{between, eventRefusals, numberOf, decoded}
+use Rattle.kbdif_decode.specs.Decode.{eventRefusals, numberOf, decoded}
 use Rattle.kbdif_decode.specs.declared.Decoded.{Decoded}
 use Rattle.kbdif_decode.specs.declared.Decoded.the-variants.{Refused}
 use Rattle.kbdif_decode.proofs.Laws.Answer.{answered-number}
 use Rattle.kbdif_decode.proofs.Laws.Form.{judged, fine, decoded-judged}
-use Rattle.kbdif.specs.Page.{pageLength, ringLength, inProdOf, withInCons, nextIndex, distance, eventPlace, eventBytesAt, isContactLimit}
+use Rattle.kbdif_page.specs.Page.{pageLength, ringLength, inProdOf, withInCons, nextIndex, distance, eventPlace, eventBytesAt, isContactLimit}
 use Rattle.kbdif.specs.Take.{waitingRefusals, takeRefusals, takeNumber, consumed, takeOutcome, takeAnswered, takeOf}
 
 -- ---- one order of refusals after another

@@ -1,6 +1,6 @@
 use borrow.Author.Tests.{not-false}
 use mathlib.Core.Path.{sym, _∙_}
-use Rattle.kbdif.proofs.Laws.Page.{limit-positive}
+use Rattle.kbdif_page.proofs.Laws.Page.{limit-positive}
 use borrow.Author.Tests.{eq-eqb, ne-eqb, lt-ltb, le-ltb}
 use Rattle.answers.specs.Refusals.{firstRefusal}
 use borrow.Author.Needs.{needs}

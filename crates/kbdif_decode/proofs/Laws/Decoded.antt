@@ -19,8 +19,8 @@ use Rattle.words.specs.Words.{u16At, u32At, u16Bytes, u32Bytes, IsBytes}
 use Rattle.kbdif_decode.specs.declared.Decoded.the-variants.{Event}
 use Rattle.kbdif_events.specs.declared.RingEvent.{RingEvent}
 use Rattle.kbdif_events.specs.declared.RingEvent.the-variants.{Unknown}
-use Rattle.kbdif_events.specs.Event.{eventLength, zeros, layoutOf, eventBytes, i32Bytes, i16Bytes, known}
-use Rattle.kbdif_decode.specs.Decode.{i32At, i16At, lookup, touchAt, eventAt, extentOf, allZero, between, reservedIsZero, pressedAboveOne, eventRefusals, decoded}
+use Rattle.kbdif_events.specs.Event.{eventLength, between, zeros, layoutOf, eventBytes, i32Bytes, i16Bytes, known}
+use Rattle.kbdif_decode.specs.Decode.{i32At, i16At, lookup, touchAt, eventAt, extentOf, allZero, reservedIsZero, pressedAboveOne, eventRefusals, decoded}
 use Rattle.kbdif_decode.proofs.Laws.Answer.{answered-event}
 use Rattle.kbdif_decode.proofs.Laws.Layout.{ordered}
 use Rattle.kbdif_decode.proofs.Laws.Pieces.{pieces, joined, one-byte, two-bytes, three-bytes, u16-bytes, u32-bytes}

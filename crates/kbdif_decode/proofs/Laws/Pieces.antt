@@ -7,7 +7,7 @@ use native.Mathlib.Numerals.{add-one}
 use lib.ListN.{length, getD, drop, take-append-drop}
 use lib.Seq.{drop-cons, drop-drop, take-add}
 use Rattle.words.specs.Words.{u16At, u32At, u16Bytes, u32Bytes, IsBytes}
-use Rattle.kbdif_decode.specs.Decode.{between}
+use Rattle.kbdif_events.specs.Event.{between}
 
 -- a number's bytes are the digits that it was made of
 same : {a b : ℕ} {xs ys : List ℕ} → a ≡ b → xs ≡ ys → a ∷ xs ≡ b ∷ ys

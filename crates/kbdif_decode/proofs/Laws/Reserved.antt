@@ -11,8 +11,8 @@ use lib.ListN.{length, getD, take, drop}
 use lib.Seq.{drop-cons, drop-drop, take-add}
 use borrow.Author.Tests.{eq-eqb, ne-eqb}
 use Rattle.words.specs.Words.{u16At, u32At, IsBytes}
-use Rattle.kbdif_events.specs.Event.{eventLength}
-use Rattle.kbdif_decode.specs.Decode.{u64At, allZero, between, zeroOutside}
+use Rattle.kbdif_events.specs.Event.{eventLength, between}
+use Rattle.kbdif_decode.specs.Decode.{u64At, allZero, zeroOutside}
 
 -- two tests that hold together
 same-test : (a b c d : ℕ) → (a ≡ b → c ≡ d) → (c ≡ d → a ≡ b) → eqb a b ≡ eqb c d

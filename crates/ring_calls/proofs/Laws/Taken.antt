@@ -1,14 +1,14 @@
 -- What a take tells and leaves, by the way it goes.
 use Prim.Native.Nat.{ℕ, _+_}
-use mathlib.Core.Path.{_≡_, ap, _∙_}
+use mathlib.Core.Path.{_≡_, _∙_}
 use mathlib.Core.List.{List}
 use Rattle.answers.specs.Answers.{done}
 use Rattle.answers.specs.Refusals.{firstRefusal}
-use Rattle.kbdif_events.specs.Event.{eventLength}
-use Rattle.kbdif_decode.specs.Decode.{between, decoded}
-use Rattle.kbdif.specs.Page.{withInCons, nextIndex, eventPlace, eventBytesAt}
+use Rattle.kbdif_events.specs.Event.{eventLength, between}
+use Rattle.kbdif_decode.specs.Decode.{decoded}
+use Rattle.kbdif_page.specs.Page.{withInCons, nextIndex, eventPlace, eventBytesAt}
+use Rattle.kbdif_page.proofs.Laws.Page.{cons-event}
 use Rattle.kbdif.specs.Take.{waitingRefusals, takeOf}
-use Rattle.kbdif.proofs.Laws.Page.{cons-event}
 use Rattle.kbdif.proofs.Laws.Take.{waits, take-refused, take-done}
 use Rattle.ring_numbers.specs.Numbers.{noNumbers, found, foundOf}
 use Rattle.ring_numbers.specs.declared.FoundNumbers.{FoundNumbers}

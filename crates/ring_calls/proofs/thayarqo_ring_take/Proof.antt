@@ -1,6 +1,6 @@
 use native.Mathlib.Omega.{arith}
 use mathlib.Core.Path.{sym, _∙_}
-use Rattle.kbdif.proofs.Laws.Page.{limit-positive}
+use Rattle.kbdif_page.proofs.Laws.Page.{limit-positive}
 use Rattle.kbdif.proofs.Laws.Take.{waits}
 use Rattle.ring_calls.proofs.Laws.Taken.{refusal-taken, event-taken}
 use borrow.Author.Needs.{needs}

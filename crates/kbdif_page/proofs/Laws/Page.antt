@@ -12,9 +12,8 @@ use borrow.Author.Tests.{leb-true}
 use Rattle.words.specs.Words.{overwrite, Agree, u32Bytes}
 use Rattle.words.proofs.Laws.Overwrite.{overwrite-length, overwrite-inside, overwrite-before, overwrite-after}
 use Rattle.words.proofs.Laws.Word.{agree-u32, u32-back}
-use Rattle.kbdif_events.specs.Event.{eventLength}
-use Rattle.kbdif_decode.specs.Decode.{between}
-use Rattle.kbdif.specs.Page.{pageLength, ringLength, inConsOf, inProdOf, withInCons, withInProd, eventPlace, eventBytesAt, isContactLimit}
+use Rattle.kbdif_events.specs.Event.{eventLength, between}
+use Rattle.kbdif_page.specs.Page.{pageLength, ringLength, inConsOf, inProdOf, withInCons, withInProd, eventPlace, eventBytesAt, isContactLimit}
 
 -- ---- stretches
 
