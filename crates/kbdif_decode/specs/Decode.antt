@@ -14,6 +14,7 @@ use Rattle.kbdif_decode.specs.declared.Decoded.{Decoded}
 use Rattle.kbdif_decode.specs.declared.Decoded.the-variants.{Event, Refused}
 use Rattle.kbdif_events.specs.declared.RingEvent.{RingEvent}
 use Rattle.kbdif_events.specs.declared.RingEvent.the-variants.{Motion, Key, Pos, TouchDown, TouchUp, TouchMotion, TouchSyn, TouchShape, TouchOrient, Unknown}
+use Rattle.kbdif_events.specs.Types.{XENKBD-TYPE-MOTION, XENKBD-TYPE-KEY, XENKBD-TYPE-POS, XENKBD-TYPE-MTOUCH, XENKBD-MT-EV-DOWN, XENKBD-MT-EV-UP, XENKBD-MT-EV-MOTION, XENKBD-MT-EV-SYN, XENKBD-MT-EV-SHAPE, XENKBD-MT-EV-ORIENT}
 use Rattle.kbdif_events.specs.Event.{eventLength, between, layoutOf, contactOf, known}
 
 -- Eight bytes as one number.
@@ -36,12 +37,12 @@ lookup number ((key, event) ∷ rest) other = cond (eqb number key) event (looku
 unfoldable pub touchAt : List ℕ → RingEvent
 touchAt bytes =
     lookup (getD bytes 1 0)
-    ((0, TouchDown (getD bytes 2 0) (i32At bytes 8) (i32At bytes 12))
-    ∷ (1, TouchUp (getD bytes 2 0))
-    ∷ (2, TouchMotion (getD bytes 2 0) (i32At bytes 8) (i32At bytes 12))
-    ∷ (3, TouchSyn (getD bytes 2 0))
-    ∷ (4, TouchShape (getD bytes 2 0) (u32At bytes 8) (u32At bytes 12))
-    ∷ (5, TouchOrient (getD bytes 2 0) (i16At bytes 8))
+    ((XENKBD-MT-EV-DOWN, TouchDown (getD bytes 2 0) (i32At bytes 8) (i32At bytes 12))
+    ∷ (XENKBD-MT-EV-UP, TouchUp (getD bytes 2 0))
+    ∷ (XENKBD-MT-EV-MOTION, TouchMotion (getD bytes 2 0) (i32At bytes 8) (i32At bytes 12))
+    ∷ (XENKBD-MT-EV-SYN, TouchSyn (getD bytes 2 0))
+    ∷ (XENKBD-MT-EV-SHAPE, TouchShape (getD bytes 2 0) (u32At bytes 8) (u32At bytes 12))
+    ∷ (XENKBD-MT-EV-ORIENT, TouchOrient (getD bytes 2 0) (i16At bytes 8))
     ∷ [])
     Unknown
 
@@ -49,10 +50,10 @@ touchAt bytes =
 unfoldable pub eventAt : List ℕ → RingEvent
 eventAt bytes =
     lookup (getD bytes 0 0)
-    ((1, Motion (i32At bytes 4) (i32At bytes 8) (i32At bytes 12))
-    ∷ (3, Key (eqb (getD bytes 1 0) 1) (u32At bytes 4))
-    ∷ (4, Pos (i32At bytes 4) (i32At bytes 8) (i32At bytes 12))
-    ∷ (5, touchAt bytes)
+    ((XENKBD-TYPE-MOTION, Motion (i32At bytes 4) (i32At bytes 8) (i32At bytes 12))
+    ∷ (XENKBD-TYPE-KEY, Key (eqb (getD bytes 1 0) 1) (u32At bytes 4))
+    ∷ (XENKBD-TYPE-POS, Pos (i32At bytes 4) (i32At bytes 8) (i32At bytes 12))
+    ∷ (XENKBD-TYPE-MTOUCH, touchAt bytes)
     ∷ [])
     Unknown
 
@@ -83,7 +84,7 @@ reservedIsZero bytes event = zeroOutside bytes (extentOf event .head) (extentOf 
 
 -- Pressed above 1.
 abbrev pub pressedAboveOne : List ℕ → Bool
-pressedAboveOne bytes = eqb (getD bytes 0 0) 3 && ltb 1 (getD bytes 1 0)
+pressedAboveOne bytes = eqb (getD bytes 0 0) XENKBD-TYPE-KEY && ltb 1 (getD bytes 1 0)
 
 -- A nonzero reserved byte, pressed above 1, or a contact at or above the limit is 9.
 abbrev pub eventRefusals : List ℕ → ℕ → List (Bool × ℕ)

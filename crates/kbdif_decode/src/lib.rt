@@ -1,21 +1,22 @@
 // The event that 40 bytes of the Xen keyboard ring hold, under a contact limit.
 use answers::MALFORMED;
-use kbdif_events::DOWN;
-use kbdif_events::KEY;
-use kbdif_events::MOTION;
-use kbdif_events::MOVE;
-use kbdif_events::MTOUCH;
-use kbdif_events::ORIENT;
-use kbdif_events::POS;
 use kbdif_events::RingEvent;
-use kbdif_events::SHAPE;
-use kbdif_events::SYN;
-use kbdif_events::UP;
+use kbdif_events::XENKBD_MT_EV_DOWN;
+use kbdif_events::XENKBD_MT_EV_MOTION;
+use kbdif_events::XENKBD_MT_EV_ORIENT;
+use kbdif_events::XENKBD_MT_EV_SHAPE;
+use kbdif_events::XENKBD_MT_EV_SYN;
+use kbdif_events::XENKBD_MT_EV_UP;
+use kbdif_events::XENKBD_TYPE_KEY;
+use kbdif_events::XENKBD_TYPE_MOTION;
+use kbdif_events::XENKBD_TYPE_MTOUCH;
+use kbdif_events::XENKBD_TYPE_POS;
 ghost use mathlib.Core.Path.{_≡_};
 ghost use Prim.Native.Nat.{_+_, _≤_};
 ghost use mathlib.Core.Bool.{_&&_};
 ghost use lib.ListN.{length, getD};
 ghost use Rattle.answers.specs.Refusals.{firstRefusal};
+ghost use Rattle.kbdif_events.specs.Types.{XENKBD-TYPE-MTOUCH};
 ghost use Rattle.kbdif_events.specs.Event.{eventLength, between, contactOf};
 ghost use Rattle.kbdif_decode.specs.Decode.{i32At, u64At, touchAt, eventAt, allZero, zeroOutside, reservedIsZero, pressedAboveOne, eventRefusals, numberOf, decoded, mayBePut};
 
@@ -38,24 +39,24 @@ fn touch_at(bytes: &[u8]) -> RingEvent
     let subtype = bytes[1];
     let contact = bytes[2];
     match subtype {
-        DOWN => RingEvent::TouchDown {
+        XENKBD_MT_EV_DOWN => RingEvent::TouchDown {
             contact,
             x: i32_at(bytes, 8),
             y: i32_at(bytes, 12),
         },
-        UP => RingEvent::TouchUp { contact },
-        MOVE => RingEvent::TouchMotion {
+        XENKBD_MT_EV_UP => RingEvent::TouchUp { contact },
+        XENKBD_MT_EV_MOTION => RingEvent::TouchMotion {
             contact,
             x: i32_at(bytes, 8),
             y: i32_at(bytes, 12),
         },
-        SYN => RingEvent::TouchSyn { contact },
-        SHAPE => RingEvent::TouchShape {
+        XENKBD_MT_EV_SYN => RingEvent::TouchSyn { contact },
+        XENKBD_MT_EV_SHAPE => RingEvent::TouchShape {
             contact,
             major: words::read_u32(bytes, 8),
             minor: words::read_u32(bytes, 12),
         },
-        ORIENT => RingEvent::TouchOrient {
+        XENKBD_MT_EV_ORIENT => RingEvent::TouchOrient {
             contact,
             orientation: signed::i16_from_bits(words::read_u16(bytes, 8)),
         },
@@ -69,21 +70,21 @@ fn event_at(bytes: &[u8]) -> RingEvent
 {
     let kind = bytes[0];
     match kind {
-        MOTION => RingEvent::Motion {
+        XENKBD_TYPE_MOTION => RingEvent::Motion {
             x: i32_at(bytes, 4),
             y: i32_at(bytes, 8),
             z: i32_at(bytes, 12),
         },
-        KEY => RingEvent::Key {
+        XENKBD_TYPE_KEY => RingEvent::Key {
             pressed: bytes[1] == 1,
             keycode: words::read_u32(bytes, 4),
         },
-        POS => RingEvent::Pos {
+        XENKBD_TYPE_POS => RingEvent::Pos {
             x: i32_at(bytes, 4),
             y: i32_at(bytes, 8),
             wheel: i32_at(bytes, 12),
         },
-        MTOUCH => touch_at(bytes),
+        XENKBD_TYPE_MTOUCH => touch_at(bytes),
         _ => RingEvent::Unknown,
     }
 }
@@ -209,7 +210,7 @@ fn pressed_above_one(bytes: &[u8]) -> bool
     requires { ⌜ length (now bytes) ≡ eventLength ⌝ }
     ensures { λ r. ⌜ r ≡ pressedAboveOne (now (bytes .entry)) ⌝ }
 {
-    if bytes[0] != KEY {
+    if bytes[0] != XENKBD_TYPE_KEY {
         return false;
     }
     bytes[1] > 1
@@ -243,18 +244,18 @@ fn both(first: bool, second: bool) -> bool
 }
 
 fn touch_may_be_put(bytes: &[u8], contact_limit: u32) -> bool
-    requires { ⌜ (length (now bytes) ≡ eventLength) × (getD (now bytes) 0 0 ≡ 5) × (1 ≤ «contact_limit») ⌝ }
+    requires { ⌜ (length (now bytes) ≡ eventLength) × (getD (now bytes) 0 0 ≡ XENKBD-TYPE-MTOUCH) × (1 ≤ «contact_limit») ⌝ }
     ensures { λ r. ⌜ r ≡ mayBePut (decoded (now (bytes .entry)) «contact_limit») ⌝ }
 {
     let subtype = bytes[1];
     let allowed = (bytes[2] as u32) < contact_limit;
     match subtype {
-        DOWN => both(touch_is_clear(bytes), allowed),
-        UP => both(bare_touch_is_clear(bytes), allowed),
-        MOVE => both(touch_is_clear(bytes), allowed),
-        SYN => both(bare_touch_is_clear(bytes), allowed),
-        SHAPE => both(touch_is_clear(bytes), allowed),
-        ORIENT => both(orientation_is_clear(bytes), allowed),
+        XENKBD_MT_EV_DOWN => both(touch_is_clear(bytes), allowed),
+        XENKBD_MT_EV_UP => both(bare_touch_is_clear(bytes), allowed),
+        XENKBD_MT_EV_MOTION => both(touch_is_clear(bytes), allowed),
+        XENKBD_MT_EV_SYN => both(bare_touch_is_clear(bytes), allowed),
+        XENKBD_MT_EV_SHAPE => both(touch_is_clear(bytes), allowed),
+        XENKBD_MT_EV_ORIENT => both(orientation_is_clear(bytes), allowed),
         _ => false,
     }
 }
@@ -265,13 +266,13 @@ pub fn may_be_put(bytes: &[u8], contact_limit: u32) -> bool
     ensures { λ r. ⌜ r ≡ mayBePut (decoded (now (bytes .entry)) «contact_limit») ⌝ }
 {
     let kind = bytes[0];
-    if kind == MTOUCH {
+    if kind == XENKBD_TYPE_MTOUCH {
         return touch_may_be_put(bytes, contact_limit);
     }
     match kind {
-        MOTION => pointer_is_clear(bytes),
-        KEY => both(key_is_clear(bytes), bytes[1] <= 1),
-        POS => pointer_is_clear(bytes),
+        XENKBD_TYPE_MOTION => pointer_is_clear(bytes),
+        XENKBD_TYPE_KEY => both(key_is_clear(bytes), bytes[1] <= 1),
+        XENKBD_TYPE_POS => pointer_is_clear(bytes),
         _ => false,
     }
 }

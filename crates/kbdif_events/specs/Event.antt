@@ -8,6 +8,7 @@ use mir.Syntax.{w8, w16, w32}
 use mir.Val.{Fits, SFits}
 use Rattle.words.specs.Words.{u16Bytes, u32Bytes}
 use Rattle.signed.specs.Signed.{toBits}
+use Rattle.kbdif_events.specs.Types.{XENKBD-TYPE-MOTION, XENKBD-TYPE-KEY, XENKBD-TYPE-POS, XENKBD-TYPE-MTOUCH, XENKBD-MT-EV-DOWN, XENKBD-MT-EV-UP, XENKBD-MT-EV-MOTION, XENKBD-MT-EV-SYN, XENKBD-MT-EV-SHAPE, XENKBD-MT-EV-ORIENT}
 use Rattle.kbdif_events.specs.declared.RingEvent.{RingEvent}
 use Rattle.kbdif_events.specs.declared.RingEvent.the-variants.{Motion, Key, Pos, TouchDown, TouchUp, TouchMotion, TouchSyn, TouchShape, TouchOrient, Unknown}
 
@@ -40,15 +41,15 @@ layout head start fields = record { head = head; start = start; fields = fields 
 -- Byte 0 is the type. A key has pressed at byte 1, a touch its subtype at byte 1 and its contact at byte 2.
 -- What is unknown keeps all bytes to itself. It is written as zeros, since no event has type 0.
 unfoldable pub layoutOf : RingEvent → Layout
-layoutOf (Motion x y z) = layout (1 ∷ []) 4 (i32Bytes x ++ (i32Bytes y ++ i32Bytes z))
-layoutOf (Key pressed keycode) = layout (3 ∷ cond pressed 1 0 ∷ []) 4 (u32Bytes keycode)
-layoutOf (Pos x y wheel) = layout (4 ∷ []) 4 (i32Bytes x ++ (i32Bytes y ++ i32Bytes wheel))
-layoutOf (TouchDown contact x y) = layout (5 ∷ 0 ∷ contact ∷ []) 8 (i32Bytes x ++ i32Bytes y)
-layoutOf (TouchUp contact) = layout (5 ∷ 1 ∷ contact ∷ []) 8 []
-layoutOf (TouchMotion contact x y) = layout (5 ∷ 2 ∷ contact ∷ []) 8 (i32Bytes x ++ i32Bytes y)
-layoutOf (TouchSyn contact) = layout (5 ∷ 3 ∷ contact ∷ []) 8 []
-layoutOf (TouchShape contact major minor) = layout (5 ∷ 4 ∷ contact ∷ []) 8 (u32Bytes major ++ u32Bytes minor)
-layoutOf (TouchOrient contact orientation) = layout (5 ∷ 5 ∷ contact ∷ []) 8 (i16Bytes orientation)
+layoutOf (Motion x y z) = layout (XENKBD-TYPE-MOTION ∷ []) 4 (i32Bytes x ++ (i32Bytes y ++ i32Bytes z))
+layoutOf (Key pressed keycode) = layout (XENKBD-TYPE-KEY ∷ cond pressed 1 0 ∷ []) 4 (u32Bytes keycode)
+layoutOf (Pos x y wheel) = layout (XENKBD-TYPE-POS ∷ []) 4 (i32Bytes x ++ (i32Bytes y ++ i32Bytes wheel))
+layoutOf (TouchDown contact x y) = layout (XENKBD-TYPE-MTOUCH ∷ XENKBD-MT-EV-DOWN ∷ contact ∷ []) 8 (i32Bytes x ++ i32Bytes y)
+layoutOf (TouchUp contact) = layout (XENKBD-TYPE-MTOUCH ∷ XENKBD-MT-EV-UP ∷ contact ∷ []) 8 []
+layoutOf (TouchMotion contact x y) = layout (XENKBD-TYPE-MTOUCH ∷ XENKBD-MT-EV-MOTION ∷ contact ∷ []) 8 (i32Bytes x ++ i32Bytes y)
+layoutOf (TouchSyn contact) = layout (XENKBD-TYPE-MTOUCH ∷ XENKBD-MT-EV-SYN ∷ contact ∷ []) 8 []
+layoutOf (TouchShape contact major minor) = layout (XENKBD-TYPE-MTOUCH ∷ XENKBD-MT-EV-SHAPE ∷ contact ∷ []) 8 (u32Bytes major ++ u32Bytes minor)
+layoutOf (TouchOrient contact orientation) = layout (XENKBD-TYPE-MTOUCH ∷ XENKBD-MT-EV-ORIENT ∷ contact ∷ []) 8 (i16Bytes orientation)
 layoutOf Unknown = layout (zeros eventLength) eventLength []
 
 -- All other bytes are zero.

@@ -2,34 +2,36 @@
 use signed::i16_to_bits;
 use signed::i32_to_bits as bits;
 ghost use mathlib.Core.Path.{_≡_};
+ghost use mathlib.Core.Bool.{cond};
 ghost use mathlib.Core.List.{[], _∷_, _++_};
 ghost use lib.ListN.{length};
 ghost use Rattle.words.specs.Words.{u32Bytes};
-ghost use Rattle.kbdif_events.specs.Event.{eventLength, known, padded, eventBytes};
+ghost use Rattle.kbdif_events.specs.Types.{XENKBD-TYPE-KEY, XENKBD-TYPE-MTOUCH};
+ghost use Rattle.kbdif_events.specs.Event.{eventLength, i32Bytes, known, padded, eventBytes};
 
 pub const EVENT_LENGTH: usize = 40;
 
-// Types of an event.
-pub const MOTION: u8 = 1;
+// Types of an event, by the names of Xen's header.
+pub const XENKBD_TYPE_MOTION: u8 = 1;
 
-pub const KEY: u8 = 3;
+pub const XENKBD_TYPE_KEY: u8 = 3;
 
-pub const POS: u8 = 4;
+pub const XENKBD_TYPE_POS: u8 = 4;
 
-pub const MTOUCH: u8 = 5;
+pub const XENKBD_TYPE_MTOUCH: u8 = 5;
 
 // Subtypes of a touch.
-pub const DOWN: u8 = 0;
+pub const XENKBD_MT_EV_DOWN: u8 = 0;
 
-pub const UP: u8 = 1;
+pub const XENKBD_MT_EV_UP: u8 = 1;
 
-pub const MOVE: u8 = 2;
+pub const XENKBD_MT_EV_MOTION: u8 = 2;
 
-pub const SYN: u8 = 3;
+pub const XENKBD_MT_EV_SYN: u8 = 3;
 
-pub const SHAPE: u8 = 4;
+pub const XENKBD_MT_EV_SHAPE: u8 = 4;
 
-pub const ORIENT: u8 = 5;
+pub const XENKBD_MT_EV_ORIENT: u8 = 5;
 
 pub enum RingEvent {
     Motion { x: i32, y: i32, z: i32 },
@@ -84,11 +86,34 @@ fn set_all(out: &mut [u8], kind: u8, detail: u8, contact: u8, first: u32, second
     words::write_u32(out, 12, third);
 }
 
+// Fills 40 bytes with a motion or a position.
+fn set_pointer(out: &mut [u8], kind: u8, x: i32, y: i32, z: i32)
+    requires { ⌜ length (now out) ≡ eventLength ⌝ }
+    ensures { λ _. ⌜ now (out .exit) ≡ padded (kind ∷ []) 4 (i32Bytes x ++ (i32Bytes y ++ i32Bytes z)) ⌝ }
+{
+    set_all(out, kind, 0, 0, bits(x), bits(y), bits(z));
+}
+
+fn set_key(out: &mut [u8], pressed: bool, keycode: u32)
+    requires { ⌜ length (now out) ≡ eventLength ⌝ }
+    ensures { λ _. ⌜ now (out .exit) ≡ padded (XENKBD-TYPE-KEY ∷ cond pressed 1 0 ∷ []) 4 (u32Bytes keycode) ⌝ }
+{
+    set_all(out, XENKBD_TYPE_KEY, pressed as u8, 0, keycode, 0, 0);
+}
+
 fn set_touch(out: &mut [u8], subtype: u8, contact: u8, first: u32, second: u32)
     requires { ⌜ length (now out) ≡ eventLength ⌝ }
-    ensures { λ _. ⌜ now (out .exit) ≡ padded (5 ∷ subtype ∷ contact ∷ []) 8 (u32Bytes first ++ u32Bytes second) ⌝ }
+    ensures { λ _. ⌜ now (out .exit) ≡ padded (XENKBD-TYPE-MTOUCH ∷ subtype ∷ contact ∷ []) 8 (u32Bytes first ++ u32Bytes second) ⌝ }
 {
-    set_all(out, MTOUCH, subtype, contact, 0, first, second);
+    set_all(out, XENKBD_TYPE_MTOUCH, subtype, contact, 0, first, second);
+}
+
+// Fills 40 bytes with a touch that has a place.
+fn set_place(out: &mut [u8], subtype: u8, contact: u8, x: i32, y: i32)
+    requires { ⌜ length (now out) ≡ eventLength ⌝ }
+    ensures { λ _. ⌜ now (out .exit) ≡ padded (XENKBD-TYPE-MTOUCH ∷ subtype ∷ contact ∷ []) 8 (i32Bytes x ++ i32Bytes y) ⌝ }
+{
+    set_touch(out, subtype, contact, bits(x), bits(y));
 }
 
 // Fills 40 bytes with an event. What is unknown becomes zeros, since no event has type 0.
@@ -97,22 +122,34 @@ pub fn encode(out: &mut [u8], event: RingEvent)
     ensures { λ _. ⌜ now (out .exit) ≡ eventBytes event ⌝ }
 {
     match event {
-        RingEvent::Motion { x, y, z } => set_all(out, MOTION, 0, 0, bits(x), bits(y), bits(z)),
-        RingEvent::Key { pressed, keycode } => set_all(out, KEY, pressed as u8, 0, keycode, 0, 0),
-        RingEvent::Pos { x, y, wheel } => set_all(out, POS, 0, 0, bits(x), bits(y), bits(wheel)),
-        RingEvent::TouchDown { contact, x, y } => set_touch(out, DOWN, contact, bits(x), bits(y)),
-        RingEvent::TouchUp { contact } => set_touch(out, UP, contact, 0, 0),
-        RingEvent::TouchMotion { contact, x, y } => set_touch(out, MOVE, contact, bits(x), bits(y)),
-        RingEvent::TouchSyn { contact } => set_touch(out, SYN, contact, 0, 0),
+        RingEvent::Motion { x, y, z } => set_pointer(out, XENKBD_TYPE_MOTION, x, y, z),
+        RingEvent::Key { pressed, keycode } => set_key(out, pressed, keycode),
+        RingEvent::Pos { x, y, wheel } => set_pointer(out, XENKBD_TYPE_POS, x, y, wheel),
+        RingEvent::TouchDown { contact, x, y } => set_place(out, XENKBD_MT_EV_DOWN, contact, x, y),
+        RingEvent::TouchUp { contact } => set_touch(out, XENKBD_MT_EV_UP, contact, 0, 0),
+        RingEvent::TouchMotion { contact, x, y } => set_place(
+            out,
+            XENKBD_MT_EV_MOTION,
+            contact,
+            x,
+            y,
+        ),
+        RingEvent::TouchSyn { contact } => set_touch(out, XENKBD_MT_EV_SYN, contact, 0, 0),
         RingEvent::TouchShape {
             contact,
             major,
             minor,
-        } => set_touch(out, SHAPE, contact, major, minor),
+        } => set_touch(out, XENKBD_MT_EV_SHAPE, contact, major, minor),
         RingEvent::TouchOrient {
             contact,
             orientation,
-        } => set_touch(out, ORIENT, contact, i16_to_bits(orientation) as u32, 0),
+        } => set_touch(
+            out,
+            XENKBD_MT_EV_ORIENT,
+            contact,
+            i16_to_bits(orientation) as u32,
+            0,
+        ),
         RingEvent::Unknown => set_all(out, 0, 0, 0, 0, 0, 0),
     }
 }

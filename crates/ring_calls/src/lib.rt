@@ -4,17 +4,17 @@ use answers::INVALID;
 use answers::MALFORMED;
 use kbdif_decode::Decoded;
 use kbdif_decode::i32_at;
-use kbdif_events::DOWN;
 use kbdif_events::EVENT_LENGTH;
-use kbdif_events::KEY;
-use kbdif_events::MOTION;
-use kbdif_events::MOVE;
-use kbdif_events::MTOUCH;
-use kbdif_events::ORIENT;
-use kbdif_events::POS;
-use kbdif_events::SHAPE;
-use kbdif_events::SYN;
-use kbdif_events::UP;
+use kbdif_events::XENKBD_MT_EV_DOWN;
+use kbdif_events::XENKBD_MT_EV_MOTION;
+use kbdif_events::XENKBD_MT_EV_ORIENT;
+use kbdif_events::XENKBD_MT_EV_SHAPE;
+use kbdif_events::XENKBD_MT_EV_SYN;
+use kbdif_events::XENKBD_MT_EV_UP;
+use kbdif_events::XENKBD_TYPE_KEY;
+use kbdif_events::XENKBD_TYPE_MOTION;
+use kbdif_events::XENKBD_TYPE_MTOUCH;
+use kbdif_events::XENKBD_TYPE_POS;
 use kbdif_page::IN_CONS;
 use ring_numbers::FoundNumbers;
 use ring_numbers::RingNumbers;
@@ -29,6 +29,7 @@ ghost use lib.Dec.{eqb, leb, ltb};
 ghost use lib.IntN.{pos};
 ghost use lib.ListN.{length, getD};
 ghost use Rattle.words.specs.Words.{u32At};
+ghost use Rattle.kbdif_events.specs.Types.{XENKBD-TYPE-MTOUCH};
 ghost use Rattle.kbdif_events.specs.Event.{eventLength};
 ghost use Rattle.kbdif_decode.specs.Decode.{i32At, i16At, zeroOutside, decoded};
 ghost use Rattle.kbdif.specs.Put.{putOf};
@@ -132,7 +133,7 @@ fn key_at(bytes: &[u8]) -> FoundNumbers
 
 fn placed_touch_at(bytes: &[u8], subtype: u8, contact_limit: u32) -> FoundNumbers
     requires { ⌜ length (now bytes) ≡ eventLength ⌝ }
-    ensures { λ r. ⌜ r ≡ checkedNumbers (zeroOutside (now (bytes .entry)) 3 8 16 && ltb (getD (now (bytes .entry)) 2 0) «contact_limit») (placeNumbers 5 subtype (getD (now (bytes .entry)) 2 0) (i32At (now (bytes .entry)) 8) (i32At (now (bytes .entry)) 12) (pos 0)) ⌝ }
+    ensures { λ r. ⌜ r ≡ checkedNumbers (zeroOutside (now (bytes .entry)) 3 8 16 && ltb (getD (now (bytes .entry)) 2 0) «contact_limit») (placeNumbers XENKBD-TYPE-MTOUCH subtype (getD (now (bytes .entry)) 2 0) (i32At (now (bytes .entry)) 8) (i32At (now (bytes .entry)) 12) (pos 0)) ⌝ }
 {
     let contact = bytes[2];
     if contact as u32 >= contact_limit {
@@ -141,7 +142,7 @@ fn placed_touch_at(bytes: &[u8], subtype: u8, contact_limit: u32) -> FoundNumber
     checked(
         kbdif_decode::touch_is_clear(bytes),
         place_numbers(
-            MTOUCH,
+            XENKBD_TYPE_MTOUCH,
             subtype,
             contact,
             i32_at(bytes, 8),
@@ -153,7 +154,7 @@ fn placed_touch_at(bytes: &[u8], subtype: u8, contact_limit: u32) -> FoundNumber
 
 fn bare_touch_at(bytes: &[u8], subtype: u8, contact_limit: u32) -> FoundNumbers
     requires { ⌜ length (now bytes) ≡ eventLength ⌝ }
-    ensures { λ r. ⌜ r ≡ checkedNumbers (zeroOutside (now (bytes .entry)) 3 8 8 && ltb (getD (now (bytes .entry)) 2 0) «contact_limit») (placeNumbers 5 subtype (getD (now (bytes .entry)) 2 0) (pos 0) (pos 0) (pos 0)) ⌝ }
+    ensures { λ r. ⌜ r ≡ checkedNumbers (zeroOutside (now (bytes .entry)) 3 8 8 && ltb (getD (now (bytes .entry)) 2 0) «contact_limit») (placeNumbers XENKBD-TYPE-MTOUCH subtype (getD (now (bytes .entry)) 2 0) (pos 0) (pos 0) (pos 0)) ⌝ }
 {
     let contact = bytes[2];
     if contact as u32 >= contact_limit {
@@ -161,7 +162,7 @@ fn bare_touch_at(bytes: &[u8], subtype: u8, contact_limit: u32) -> FoundNumbers
     }
     checked(
         kbdif_decode::bare_touch_is_clear(bytes),
-        place_numbers(MTOUCH, subtype, contact, 0, 0, 0),
+        place_numbers(XENKBD_TYPE_MTOUCH, subtype, contact, 0, 0, 0),
     )
 }
 
@@ -198,17 +199,17 @@ fn orientation_at(bytes: &[u8], contact_limit: u32) -> FoundNumbers
 }
 
 fn touch_at(bytes: &[u8], contact_limit: u32) -> FoundNumbers
-    requires { ⌜ (length (now bytes) ≡ eventLength) × (getD (now bytes) 0 0 ≡ 5) × (1 ≤ «contact_limit») ⌝ }
+    requires { ⌜ (length (now bytes) ≡ eventLength) × (getD (now bytes) 0 0 ≡ XENKBD-TYPE-MTOUCH) × (1 ≤ «contact_limit») ⌝ }
     ensures { λ r. ⌜ r ≡ foundOf (decoded (now (bytes .entry)) «contact_limit») ⌝ }
 {
     let subtype = bytes[1];
     match subtype {
-        DOWN => placed_touch_at(bytes, DOWN, contact_limit),
-        UP => bare_touch_at(bytes, UP, contact_limit),
-        MOVE => placed_touch_at(bytes, MOVE, contact_limit),
-        SYN => bare_touch_at(bytes, SYN, contact_limit),
-        SHAPE => shape_at(bytes, contact_limit),
-        ORIENT => orientation_at(bytes, contact_limit),
+        XENKBD_MT_EV_DOWN => placed_touch_at(bytes, XENKBD_MT_EV_DOWN, contact_limit),
+        XENKBD_MT_EV_UP => bare_touch_at(bytes, XENKBD_MT_EV_UP, contact_limit),
+        XENKBD_MT_EV_MOTION => placed_touch_at(bytes, XENKBD_MT_EV_MOTION, contact_limit),
+        XENKBD_MT_EV_SYN => bare_touch_at(bytes, XENKBD_MT_EV_SYN, contact_limit),
+        XENKBD_MT_EV_SHAPE => shape_at(bytes, contact_limit),
+        XENKBD_MT_EV_ORIENT => orientation_at(bytes, contact_limit),
         _ => ring_numbers::refused(DONE),
     }
 }
@@ -218,13 +219,13 @@ fn found_at(bytes: &[u8], contact_limit: u32) -> FoundNumbers
     ensures { λ r. ⌜ r ≡ foundOf (decoded (now (bytes .entry)) «contact_limit») ⌝ }
 {
     let kind = bytes[0];
-    if kind == MTOUCH {
+    if kind == XENKBD_TYPE_MTOUCH {
         return touch_at(bytes, contact_limit);
     }
     match kind {
-        MOTION => pointer_at(bytes, MOTION),
-        KEY => key_at(bytes),
-        POS => pointer_at(bytes, POS),
+        XENKBD_TYPE_MOTION => pointer_at(bytes, XENKBD_TYPE_MOTION),
+        XENKBD_TYPE_KEY => key_at(bytes),
+        XENKBD_TYPE_POS => pointer_at(bytes, XENKBD_TYPE_POS),
         _ => ring_numbers::refused(DONE),
     }
 }

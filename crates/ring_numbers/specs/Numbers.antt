@@ -5,6 +5,7 @@ use mathlib.Core.Bool.{Bool, false}
 use mathlib.Core.List.{[], _∷_}
 use lib.IntN.{ℤ, pos}
 use Rattle.answers.specs.Answers.{done}
+use Rattle.kbdif_events.specs.Types.{XENKBD-TYPE-MOTION, XENKBD-TYPE-KEY, XENKBD-TYPE-POS, XENKBD-TYPE-MTOUCH, XENKBD-MT-EV-DOWN, XENKBD-MT-EV-UP, XENKBD-MT-EV-MOTION, XENKBD-MT-EV-SYN, XENKBD-MT-EV-SHAPE, XENKBD-MT-EV-ORIENT}
 use Rattle.kbdif_events.specs.declared.RingEvent.{RingEvent}
 use Rattle.kbdif_events.specs.declared.RingEvent.the-variants.{Motion, Key, Pos, TouchDown, TouchUp, TouchMotion, TouchSyn, TouchShape, TouchOrient, Unknown}
 use Rattle.kbdif_decode.specs.Decode.{lookup}
@@ -34,7 +35,7 @@ noNumbers = placeNumbers 0 0 0 (pos 0) (pos 0) (pos 0)
 
 abbrev pub keyNumbers : Bool → ℕ → RingNumbers
 keyNumbers pressed keycode = record {
-  kind = 3;
+  kind = XENKBD-TYPE-KEY;
   subtype = 0;
   contact = 0;
   pressed = pressed;
@@ -49,8 +50,8 @@ keyNumbers pressed keycode = record {
 
 abbrev pub shapeNumbers : ℕ → ℕ → ℕ → RingNumbers
 shapeNumbers contact major minor = record {
-  kind = 5;
-  subtype = 4;
+  kind = XENKBD-TYPE-MTOUCH;
+  subtype = XENKBD-MT-EV-SHAPE;
   contact = contact;
   pressed = false;
   x = pos 0;
@@ -64,8 +65,8 @@ shapeNumbers contact major minor = record {
 
 abbrev pub orientNumbers : ℕ → ℤ → RingNumbers
 orientNumbers contact orientation = record {
-  kind = 5;
-  subtype = 5;
+  kind = XENKBD-TYPE-MTOUCH;
+  subtype = XENKBD-MT-EV-ORIENT;
   contact = contact;
   pressed = false;
   x = pos 0;
@@ -78,13 +79,13 @@ orientNumbers contact orientation = record {
 }
 
 unfoldable pub numbersOf : RingEvent → RingNumbers
-numbersOf (Motion x y z) = placeNumbers 1 0 0 x y z
+numbersOf (Motion x y z) = placeNumbers XENKBD-TYPE-MOTION 0 0 x y z
 numbersOf (Key pressed keycode) = keyNumbers pressed keycode
-numbersOf (Pos x y wheel) = placeNumbers 4 0 0 x y wheel
-numbersOf (TouchDown contact x y) = placeNumbers 5 0 contact x y (pos 0)
-numbersOf (TouchUp contact) = placeNumbers 5 1 contact (pos 0) (pos 0) (pos 0)
-numbersOf (TouchMotion contact x y) = placeNumbers 5 2 contact x y (pos 0)
-numbersOf (TouchSyn contact) = placeNumbers 5 3 contact (pos 0) (pos 0) (pos 0)
+numbersOf (Pos x y wheel) = placeNumbers XENKBD-TYPE-POS 0 0 x y wheel
+numbersOf (TouchDown contact x y) = placeNumbers XENKBD-TYPE-MTOUCH XENKBD-MT-EV-DOWN contact x y (pos 0)
+numbersOf (TouchUp contact) = placeNumbers XENKBD-TYPE-MTOUCH XENKBD-MT-EV-UP contact (pos 0) (pos 0) (pos 0)
+numbersOf (TouchMotion contact x y) = placeNumbers XENKBD-TYPE-MTOUCH XENKBD-MT-EV-MOTION contact x y (pos 0)
+numbersOf (TouchSyn contact) = placeNumbers XENKBD-TYPE-MTOUCH XENKBD-MT-EV-SYN contact (pos 0) (pos 0) (pos 0)
 numbersOf (TouchShape contact major minor) = shapeNumbers contact major minor
 numbersOf (TouchOrient contact orientation) = orientNumbers contact orientation
 numbersOf Unknown = noNumbers
@@ -93,22 +94,22 @@ numbersOf Unknown = noNumbers
 unfoldable pub touchOf : RingNumbers → RingEvent
 touchOf numbers =
     lookup (numbers .subtype)
-    ((0, TouchDown (numbers .contact) (numbers .x) (numbers .y))
-    ∷ (1, TouchUp (numbers .contact))
-    ∷ (2, TouchMotion (numbers .contact) (numbers .x) (numbers .y))
-    ∷ (3, TouchSyn (numbers .contact))
-    ∷ (4, TouchShape (numbers .contact) (numbers .major) (numbers .minor))
-    ∷ (5, TouchOrient (numbers .contact) (numbers .orientation))
+    ((XENKBD-MT-EV-DOWN, TouchDown (numbers .contact) (numbers .x) (numbers .y))
+    ∷ (XENKBD-MT-EV-UP, TouchUp (numbers .contact))
+    ∷ (XENKBD-MT-EV-MOTION, TouchMotion (numbers .contact) (numbers .x) (numbers .y))
+    ∷ (XENKBD-MT-EV-SYN, TouchSyn (numbers .contact))
+    ∷ (XENKBD-MT-EV-SHAPE, TouchShape (numbers .contact) (numbers .major) (numbers .minor))
+    ∷ (XENKBD-MT-EV-ORIENT, TouchOrient (numbers .contact) (numbers .orientation))
     ∷ [])
     Unknown
 
 unfoldable pub eventOf : RingNumbers → RingEvent
 eventOf numbers =
     lookup (numbers .kind)
-    ((1, Motion (numbers .x) (numbers .y) (numbers .z))
-    ∷ (3, Key (numbers .pressed) (numbers .keycode))
-    ∷ (4, Pos (numbers .x) (numbers .y) (numbers .z))
-    ∷ (5, touchOf numbers)
+    ((XENKBD-TYPE-MOTION, Motion (numbers .x) (numbers .y) (numbers .z))
+    ∷ (XENKBD-TYPE-KEY, Key (numbers .pressed) (numbers .keycode))
+    ∷ (XENKBD-TYPE-POS, Pos (numbers .x) (numbers .y) (numbers .z))
+    ∷ (XENKBD-TYPE-MTOUCH, touchOf numbers)
     ∷ [])
     Unknown
 

@@ -1,17 +1,19 @@
 // Events as numbers, and back.
 use crate::RingNumbers;
-use kbdif_events::DOWN;
-use kbdif_events::KEY;
-use kbdif_events::MOTION;
-use kbdif_events::MOVE;
-use kbdif_events::MTOUCH;
-use kbdif_events::ORIENT;
-use kbdif_events::POS;
 use kbdif_events::RingEvent;
-use kbdif_events::SHAPE;
-use kbdif_events::SYN;
-use kbdif_events::UP;
+use kbdif_events::XENKBD_MT_EV_DOWN;
+use kbdif_events::XENKBD_MT_EV_MOTION;
+use kbdif_events::XENKBD_MT_EV_ORIENT;
+use kbdif_events::XENKBD_MT_EV_SHAPE;
+use kbdif_events::XENKBD_MT_EV_SYN;
+use kbdif_events::XENKBD_MT_EV_UP;
+use kbdif_events::XENKBD_TYPE_KEY;
+use kbdif_events::XENKBD_TYPE_MOTION;
+use kbdif_events::XENKBD_TYPE_MTOUCH;
+use kbdif_events::XENKBD_TYPE_POS;
 ghost use mathlib.Core.Path.{_≡_};
+ghost use lib.IntN.{pos};
+ghost use Rattle.kbdif_events.specs.Types.{XENKBD-TYPE-MTOUCH};
 ghost use Rattle.ring_numbers.specs.Numbers.{noNumbers, placeNumbers, keyNumbers, shapeNumbers, orientNumbers, numbersOf, touchOf, eventOf};
 
 pub fn place_numbers(kind: u8, subtype: u8, contact: u8, x: i32, y: i32, z: i32) -> RingNumbers
@@ -42,7 +44,7 @@ pub fn key_numbers(pressed: bool, keycode: u32) -> RingNumbers
     ensures { λ r. ⌜ r ≡ keyNumbers pressed keycode ⌝ }
 {
     RingNumbers {
-        kind: KEY,
+        kind: XENKBD_TYPE_KEY,
         subtype: 0,
         contact: 0,
         pressed,
@@ -60,8 +62,8 @@ pub fn shape_numbers(contact: u8, major: u32, minor: u32) -> RingNumbers
     ensures { λ r. ⌜ r ≡ shapeNumbers contact major minor ⌝ }
 {
     RingNumbers {
-        kind: MTOUCH,
-        subtype: SHAPE,
+        kind: XENKBD_TYPE_MTOUCH,
+        subtype: XENKBD_MT_EV_SHAPE,
         contact,
         pressed: false,
         x: 0,
@@ -78,8 +80,8 @@ pub fn orient_numbers(contact: u8, orientation: i16) -> RingNumbers
     ensures { λ r. ⌜ r ≡ orientNumbers contact orientation ⌝ }
 {
     RingNumbers {
-        kind: MTOUCH,
-        subtype: ORIENT,
+        kind: XENKBD_TYPE_MTOUCH,
+        subtype: XENKBD_MT_EV_ORIENT,
         contact,
         pressed: false,
         x: 0,
@@ -92,17 +94,28 @@ pub fn orient_numbers(contact: u8, orientation: i16) -> RingNumbers
     }
 }
 
+fn touch_numbers(subtype: u8, contact: u8, x: i32, y: i32) -> RingNumbers
+    ensures { λ r. ⌜ r ≡ placeNumbers XENKBD-TYPE-MTOUCH subtype contact x y (pos 0) ⌝ }
+{
+    place_numbers(XENKBD_TYPE_MTOUCH, subtype, contact, x, y, 0)
+}
+
 pub fn numbers_of(event: RingEvent) -> RingNumbers
     ensures { λ r. ⌜ r ≡ numbersOf event ⌝ }
 {
     match event {
-        RingEvent::Motion { x, y, z } => place_numbers(MOTION, 0, 0, x, y, z),
+        RingEvent::Motion { x, y, z } => place_numbers(XENKBD_TYPE_MOTION, 0, 0, x, y, z),
         RingEvent::Key { pressed, keycode } => key_numbers(pressed, keycode),
-        RingEvent::Pos { x, y, wheel } => place_numbers(POS, 0, 0, x, y, wheel),
-        RingEvent::TouchDown { contact, x, y } => place_numbers(MTOUCH, DOWN, contact, x, y, 0),
-        RingEvent::TouchUp { contact } => place_numbers(MTOUCH, UP, contact, 0, 0, 0),
-        RingEvent::TouchMotion { contact, x, y } => place_numbers(MTOUCH, MOVE, contact, x, y, 0),
-        RingEvent::TouchSyn { contact } => place_numbers(MTOUCH, SYN, contact, 0, 0, 0),
+        RingEvent::Pos { x, y, wheel } => place_numbers(XENKBD_TYPE_POS, 0, 0, x, y, wheel),
+        RingEvent::TouchDown { contact, x, y } => touch_numbers(XENKBD_MT_EV_DOWN, contact, x, y),
+        RingEvent::TouchUp { contact } => touch_numbers(XENKBD_MT_EV_UP, contact, 0, 0),
+        RingEvent::TouchMotion { contact, x, y } => touch_numbers(
+            XENKBD_MT_EV_MOTION,
+            contact,
+            x,
+            y,
+        ),
+        RingEvent::TouchSyn { contact } => touch_numbers(XENKBD_MT_EV_SYN, contact, 0, 0),
         RingEvent::TouchShape {
             contact,
             major,
@@ -122,24 +135,24 @@ fn touch_of(numbers: RingNumbers) -> RingEvent
     let subtype = numbers.subtype;
     let contact = numbers.contact;
     match subtype {
-        DOWN => RingEvent::TouchDown {
+        XENKBD_MT_EV_DOWN => RingEvent::TouchDown {
             contact,
             x: numbers.x,
             y: numbers.y,
         },
-        UP => RingEvent::TouchUp { contact },
-        MOVE => RingEvent::TouchMotion {
+        XENKBD_MT_EV_UP => RingEvent::TouchUp { contact },
+        XENKBD_MT_EV_MOTION => RingEvent::TouchMotion {
             contact,
             x: numbers.x,
             y: numbers.y,
         },
-        SYN => RingEvent::TouchSyn { contact },
-        SHAPE => RingEvent::TouchShape {
+        XENKBD_MT_EV_SYN => RingEvent::TouchSyn { contact },
+        XENKBD_MT_EV_SHAPE => RingEvent::TouchShape {
             contact,
             major: numbers.major,
             minor: numbers.minor,
         },
-        ORIENT => RingEvent::TouchOrient {
+        XENKBD_MT_EV_ORIENT => RingEvent::TouchOrient {
             contact,
             orientation: numbers.orientation,
         },
@@ -152,21 +165,21 @@ pub fn event_of(numbers: RingNumbers) -> RingEvent
 {
     let kind = numbers.kind;
     match kind {
-        MOTION => RingEvent::Motion {
+        XENKBD_TYPE_MOTION => RingEvent::Motion {
             x: numbers.x,
             y: numbers.y,
             z: numbers.z,
         },
-        KEY => RingEvent::Key {
+        XENKBD_TYPE_KEY => RingEvent::Key {
             pressed: numbers.pressed,
             keycode: numbers.keycode,
         },
-        POS => RingEvent::Pos {
+        XENKBD_TYPE_POS => RingEvent::Pos {
             x: numbers.x,
             y: numbers.y,
             wheel: numbers.z,
         },
-        MTOUCH => touch_of(numbers),
+        XENKBD_TYPE_MTOUCH => touch_of(numbers),
         _ => RingEvent::Unknown,
     }
 }

@@ -19,6 +19,7 @@ use Rattle.words.specs.Words.{u16At, u32At, u16Bytes, u32Bytes, IsBytes}
 use Rattle.kbdif_decode.specs.declared.Decoded.the-variants.{Event}
 use Rattle.kbdif_events.specs.declared.RingEvent.{RingEvent}
 use Rattle.kbdif_events.specs.declared.RingEvent.the-variants.{Unknown}
+use Rattle.kbdif_events.specs.Types.{XENKBD-TYPE-KEY, XENKBD-TYPE-MTOUCH}
 use Rattle.kbdif_events.specs.Event.{eventLength, between, zeros, layoutOf, eventBytes, i32Bytes, i16Bytes, known}
 use Rattle.kbdif_decode.specs.Decode.{i32At, i16At, lookup, touchAt, eventAt, extentOf, allZero, reservedIsZero, pressedAboveOne, eventRefusals, decoded}
 use Rattle.kbdif_decode.proofs.Laws.Answer.{answered-event}
@@ -124,14 +125,14 @@ module _ (bytes : List ℕ) (size : length bytes ≡ eventLength) (ok : IsBytes 
   nothing-known = record { laid = λ k. absurd (false≢true k) }
 
   -- a touch with such fields, where its subtype is the one looked for
-  touch : (event : RingEvent) {subtype : ℕ} → layoutOf event .head ≡ 5 ∷ subtype ∷ getD bytes 2 0 ∷ [] → extentOf event .head ≡ 3
-      → getD bytes 0 0 ≡ 5 → layoutOf event .fields ≡ between bytes (extentOf event .start) (extentOf event .end)
+  touch : (event : RingEvent) {subtype : ℕ} → layoutOf event .head ≡ XENKBD-TYPE-MTOUCH ∷ subtype ∷ getD bytes 2 0 ∷ [] → extentOf event .head ≡ 3
+      → getD bytes 0 0 ≡ XENKBD-TYPE-MTOUCH → layoutOf event .fields ≡ between bytes (extentOf event .start) (extentOf event .end)
       → getD bytes 1 0 ≡ subtype → Laid bytes event
   touch event head three kind fields subtype = record {
     laid = λ k reserved. laid-out bytes event size reserved (head ∙ touch-head kind subtype ∙ ap (between bytes 0) (sym three)) fields;
   }
 
-  touch-laid : getD bytes 0 0 ≡ 5 → Laid bytes (touchAt bytes)
+  touch-laid : getD bytes 0 0 ≡ XENKBD-TYPE-MTOUCH → Laid bytes (touchAt bytes)
   unfolding touchAt Entries layoutOf extentOf
   touch-laid kind =
       picked (Laid bytes) (getD bytes 1 0) _ Unknown (
@@ -149,8 +150,8 @@ module _ (bytes : List ℕ) (size : length bytes ≡ eventLength) (ok : IsBytes 
       )
       nothing-known
 
-  pressed-bit : getD bytes 0 0 ≡ 3 → pressedAboveOne bytes ≡ false → getD bytes 1 0 ≤ 1
-  pressed-bit kind allowed = ltb-false 1 (getD bytes 1 0) (rw (eq-eqb (getD bytes 0 0) 3 kind) at allowed)
+  pressed-bit : getD bytes 0 0 ≡ XENKBD-TYPE-KEY → pressedAboveOne bytes ≡ false → getD bytes 1 0 ≤ 1
+  pressed-bit kind allowed = ltb-false 1 (getD bytes 1 0) (rw (eq-eqb (getD bytes 0 0) XENKBD-TYPE-KEY kind) at allowed)
 
   event-laid : pressedAboveOne bytes ≡ false → Laid bytes (eventAt bytes)
   unfolding eventAt Entries layoutOf extentOf

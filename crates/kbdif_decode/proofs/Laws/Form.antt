@@ -13,6 +13,7 @@ use Rattle.answers.specs.Refusals.{firstRefusal}
 use Rattle.kbdif_events.specs.declared.RingEvent.{RingEvent}
 use Rattle.kbdif_events.specs.declared.RingEvent.the-variants.{Motion, Key, Pos, TouchDown, TouchUp, TouchMotion, TouchSyn, TouchShape, TouchOrient, Unknown}
 use Rattle.words.specs.Words.{u32At}
+use Rattle.kbdif_events.specs.Types.{XENKBD-TYPE-MOTION, XENKBD-TYPE-KEY, XENKBD-TYPE-POS, XENKBD-TYPE-MTOUCH, XENKBD-MT-EV-DOWN, XENKBD-MT-EV-UP, XENKBD-MT-EV-MOTION, XENKBD-MT-EV-SYN, XENKBD-MT-EV-SHAPE, XENKBD-MT-EV-ORIENT}
 use Rattle.kbdif_events.specs.Event.{layoutOf, contactOf, known}
 use Rattle.kbdif_decode.specs.declared.Decoded.{Decoded}
 use Rattle.kbdif_decode.specs.declared.Decoded.the-variants.{Event, Refused}
@@ -67,36 +68,36 @@ module _ (bytes : List ℕ) (contactLimit : ℕ) where
   -- ---- no touch
 
   module _ (some : 1 ≤ contactLimit) where
-    none-to-allow : (event : RingEvent) → (getD bytes 0 0 ≡ 3 → ⊥) → contactOf event ≡ 0 → allowedAs event ≡ true
-    none-to-allow event other none = rw (ne-eqb (getD bytes 0 0) 3 other, none, lt-leb contactLimit 0 some)
+    none-to-allow : (event : RingEvent) → (getD bytes 0 0 ≡ XENKBD-TYPE-KEY → ⊥) → contactOf event ≡ 0 → allowedAs event ≡ true
+    none-to-allow event other none = rw (ne-eqb (getD bytes 0 0) XENKBD-TYPE-KEY other, none, lt-leb contactLimit 0 some)
 
-    other-formed : {event : RingEvent} {clear : Bool} → (getD bytes 0 0 ≡ 3 → ⊥) → contactOf event ≡ 0 → eventAt bytes ≡ event → clear ≡ reservedIsZero bytes event
+    other-formed : {event : RingEvent} {clear : Bool} → (getD bytes 0 0 ≡ XENKBD-TYPE-KEY → ⊥) → contactOf event ≡ 0 → eventAt bytes ≡ event → clear ≡ reservedIsZero bytes event
         → decoded bytes contactLimit ≡ judged clear event
     other-formed {event} {clear} other none same e =
         formed same e (none-to-allow event other none) ∙ ap (λ (fine : Bool). judged fine event) (and-true clear)
 
-    pub motion-judged : {clear : Bool} → getD bytes 0 0 ≡ 1 → clear ≡ zeroOutside bytes 1 4 16
+    pub motion-judged : {clear : Bool} → getD bytes 0 0 ≡ XENKBD-TYPE-MOTION → clear ≡ zeroOutside bytes 1 4 16
         → decoded bytes contactLimit ≡ judged clear (Motion (i32At bytes 4) (i32At bytes 8) (i32At bytes 12))
     unfolding eventAt lookup reservedIsZero extentOf layoutOf
     motion-judged kind e = other-formed (λ three. omega arith) refl (rw kind) e
 
-    pub position-judged : {clear : Bool} → getD bytes 0 0 ≡ 4 → clear ≡ zeroOutside bytes 1 4 16
+    pub position-judged : {clear : Bool} → getD bytes 0 0 ≡ XENKBD-TYPE-POS → clear ≡ zeroOutside bytes 1 4 16
         → decoded bytes contactLimit ≡ judged clear (Pos (i32At bytes 4) (i32At bytes 8) (i32At bytes 12))
     unfolding eventAt lookup reservedIsZero extentOf layoutOf
     position-judged kind e = other-formed (λ three. omega arith) refl (rw kind) e
 
-    pub key-judged : {clear : Bool} → getD bytes 0 0 ≡ 3 → clear ≡ zeroOutside bytes 2 4 8
+    pub key-judged : {clear : Bool} → getD bytes 0 0 ≡ XENKBD-TYPE-KEY → clear ≡ zeroOutside bytes 2 4 8
         → decoded bytes contactLimit ≡ judged (clear && leb (getD bytes 1 0) 1) (Key (eqb (getD bytes 1 0) 1) (u32At bytes 4))
     unfolding eventAt lookup reservedIsZero extentOf layoutOf
     key-judged kind e = formed (rw kind) e (rw (kind, lt-leb contactLimit 0 some, above 1 (getD bytes 1 0)) (and-true (leb (getD bytes 1 0) 1)))
 
-    pub unknown-found : (getD bytes 0 0 ≡ 3 → ⊥) → eventAt bytes ≡ Unknown → decoded bytes contactLimit ≡ Event Unknown
+    pub unknown-found : (getD bytes 0 0 ≡ XENKBD-TYPE-KEY → ⊥) → eventAt bytes ≡ Unknown → decoded bytes contactLimit ≡ Event Unknown
     unfolding reservedIsZero extentOf layoutOf allZero
     unknown-found other same = other-formed {clear = true} other refl same refl
 
   -- ---- touches
 
-  module _ (kind : getD bytes 0 0 ≡ 5) where
+  module _ (kind : getD bytes 0 0 ≡ XENKBD-TYPE-MTOUCH) where
     touch-event : {event : RingEvent} → touchAt bytes ≡ event → eventAt bytes ≡ event
     unfolding eventAt lookup
     touch-event same = rw kind same
@@ -105,32 +106,32 @@ module _ (bytes : List ℕ) (contactLimit : ℕ) where
         → decoded bytes contactLimit ≡ judged (clear && ltb (getD bytes 2 0) contactLimit) event
     touch-formed contact same e = formed (touch-event same) e (rw (kind, contact) (below (getD bytes 2 0) contactLimit))
 
-    pub down-judged : {clear : Bool} → getD bytes 1 0 ≡ 0 → clear ≡ zeroOutside bytes 3 8 16
+    pub down-judged : {clear : Bool} → getD bytes 1 0 ≡ XENKBD-MT-EV-DOWN → clear ≡ zeroOutside bytes 3 8 16
         → decoded bytes contactLimit ≡ judged (clear && ltb (getD bytes 2 0) contactLimit) (TouchDown (getD bytes 2 0) (i32At bytes 8) (i32At bytes 12))
     unfolding touchAt lookup reservedIsZero extentOf layoutOf
     down-judged subtype e = touch-formed refl (rw subtype) e
 
-    pub up-judged : {clear : Bool} → getD bytes 1 0 ≡ 1 → clear ≡ zeroOutside bytes 3 8 8
+    pub up-judged : {clear : Bool} → getD bytes 1 0 ≡ XENKBD-MT-EV-UP → clear ≡ zeroOutside bytes 3 8 8
         → decoded bytes contactLimit ≡ judged (clear && ltb (getD bytes 2 0) contactLimit) (TouchUp (getD bytes 2 0))
     unfolding touchAt lookup reservedIsZero extentOf layoutOf
     up-judged subtype e = touch-formed refl (rw subtype) e
 
-    pub touch-motion-judged : {clear : Bool} → getD bytes 1 0 ≡ 2 → clear ≡ zeroOutside bytes 3 8 16
+    pub touch-motion-judged : {clear : Bool} → getD bytes 1 0 ≡ XENKBD-MT-EV-MOTION → clear ≡ zeroOutside bytes 3 8 16
         → decoded bytes contactLimit ≡ judged (clear && ltb (getD bytes 2 0) contactLimit) (TouchMotion (getD bytes 2 0) (i32At bytes 8) (i32At bytes 12))
     unfolding touchAt lookup reservedIsZero extentOf layoutOf
     touch-motion-judged subtype e = touch-formed refl (rw subtype) e
 
-    pub syn-judged : {clear : Bool} → getD bytes 1 0 ≡ 3 → clear ≡ zeroOutside bytes 3 8 8
+    pub syn-judged : {clear : Bool} → getD bytes 1 0 ≡ XENKBD-MT-EV-SYN → clear ≡ zeroOutside bytes 3 8 8
         → decoded bytes contactLimit ≡ judged (clear && ltb (getD bytes 2 0) contactLimit) (TouchSyn (getD bytes 2 0))
     unfolding touchAt lookup reservedIsZero extentOf layoutOf
     syn-judged subtype e = touch-formed refl (rw subtype) e
 
-    pub shape-judged : {clear : Bool} → getD bytes 1 0 ≡ 4 → clear ≡ zeroOutside bytes 3 8 16
+    pub shape-judged : {clear : Bool} → getD bytes 1 0 ≡ XENKBD-MT-EV-SHAPE → clear ≡ zeroOutside bytes 3 8 16
         → decoded bytes contactLimit ≡ judged (clear && ltb (getD bytes 2 0) contactLimit) (TouchShape (getD bytes 2 0) (u32At bytes 8) (u32At bytes 12))
     unfolding touchAt lookup reservedIsZero extentOf layoutOf
     shape-judged subtype e = touch-formed refl (rw subtype) e
 
-    pub orientation-judged : {clear : Bool} → getD bytes 1 0 ≡ 5 → clear ≡ zeroOutside bytes 3 8 10
+    pub orientation-judged : {clear : Bool} → getD bytes 1 0 ≡ XENKBD-MT-EV-ORIENT → clear ≡ zeroOutside bytes 3 8 10
         → decoded bytes contactLimit ≡ judged (clear && ltb (getD bytes 2 0) contactLimit) (TouchOrient (getD bytes 2 0) (i16At bytes 8))
     unfolding touchAt lookup reservedIsZero extentOf layoutOf
     orientation-judged subtype e = touch-formed refl (rw subtype) e

@@ -27,26 +27,26 @@ place-numbers-requires-2 c κs = search needs
 enum-known-event-4 : tie.Need-enum-known-event-4
 enum-known-event-4 c = search needs
 
-place-numbers-requires-3 : tie.Need-place-numbers-requires-3
-place-numbers-requires-3 c κs = search needs
+touch-numbers-requires : tie.Need-touch-numbers-requires
+touch-numbers-requires c κs = search needs
 
 enum-known-event-5 : tie.Need-enum-known-event-5
 enum-known-event-5 c = search needs
 
-place-numbers-requires-4 : tie.Need-place-numbers-requires-4
-place-numbers-requires-4 c κs = search needs
+touch-numbers-requires-2 : tie.Need-touch-numbers-requires-2
+touch-numbers-requires-2 c κs = search needs
 
 enum-known-event-6 : tie.Need-enum-known-event-6
 enum-known-event-6 c = search needs
 
-place-numbers-requires-5 : tie.Need-place-numbers-requires-5
-place-numbers-requires-5 c κs = search needs
+touch-numbers-requires-3 : tie.Need-touch-numbers-requires-3
+touch-numbers-requires-3 c κs = search needs
 
 enum-known-event-7 : tie.Need-enum-known-event-7
 enum-known-event-7 c = search needs
 
-place-numbers-requires-6 : tie.Need-place-numbers-requires-6
-place-numbers-requires-6 c κs = search needs
+touch-numbers-requires-4 : tie.Need-touch-numbers-requires-4
+touch-numbers-requires-4 c κs = search needs
 
 enum-known-event-8 : tie.Need-enum-known-event-8
 enum-known-event-8 c = search needs
@@ -80,19 +80,19 @@ returns-3 c = c .place-numbers2 .ensures ∙ rw (stored w32 (c .before .before .
 
 returns-4 : tie.Need-returns-4
 unfolding numbersOf
-returns-4 c = c .place-numbers3 .ensures ∙ rw (stored w32 (c .before .before .event4 .given .0 .1 .0) (c .before .known-told4 .given .1 .0 .1) refl, stored w32 (c .before .before .event4 .given .0 .1 .1 .0) (c .before .known-told4 .given .1 .1 .0 .1) refl, c .before .before .event4 .given .1)
+returns-4 c = c .touch-numbers .ensures ∙ rw (stored w32 (c .before .before .event4 .given .0 .1 .0) (c .before .known-told4 .given .1 .0 .1) refl, stored w32 (c .before .before .event4 .given .0 .1 .1 .0) (c .before .known-told4 .given .1 .1 .0 .1) refl, c .before .before .event4 .given .1)
 
 returns-5 : tie.Need-returns-5
 unfolding numbersOf
-returns-5 c = c .place-numbers4 .ensures ∙ rw (c .before .before .event5 .given .1)
+returns-5 c = c .touch-numbers2 .ensures ∙ rw (c .before .before .event5 .given .1)
 
 returns-6 : tie.Need-returns-6
 unfolding numbersOf
-returns-6 c = c .place-numbers5 .ensures ∙ rw (stored w32 (c .before .before .event6 .given .0 .1 .0) (c .before .known-told6 .given .1 .0 .1) refl, stored w32 (c .before .before .event6 .given .0 .1 .1 .0) (c .before .known-told6 .given .1 .1 .0 .1) refl, c .before .before .event6 .given .1)
+returns-6 c = c .touch-numbers3 .ensures ∙ rw (stored w32 (c .before .before .event6 .given .0 .1 .0) (c .before .known-told6 .given .1 .0 .1) refl, stored w32 (c .before .before .event6 .given .0 .1 .1 .0) (c .before .known-told6 .given .1 .1 .0 .1) refl, c .before .before .event6 .given .1)
 
 returns-7 : tie.Need-returns-7
 unfolding numbersOf
-returns-7 c = c .place-numbers6 .ensures ∙ rw (c .before .before .event7 .given .1)
+returns-7 c = c .touch-numbers4 .ensures ∙ rw (c .before .before .event7 .given .1)
 
 returns-8 : tie.Need-returns-8
 unfolding numbersOf
@@ -117,13 +117,13 @@ numbers-of-spec =
     enum-known-event-3
     place-numbers-requires-2
     enum-known-event-4
-    place-numbers-requires-3
+    touch-numbers-requires
     enum-known-event-5
-    place-numbers-requires-4
+    touch-numbers-requires-2
     enum-known-event-6
-    place-numbers-requires-5
+    touch-numbers-requires-3
     enum-known-event-7
-    place-numbers-requires-6
+    touch-numbers-requires-4
     enum-known-event-8
     shape-numbers-requires
     enum-known-event-9
