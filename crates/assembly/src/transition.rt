@@ -89,7 +89,8 @@ fn tell(told: Told, driver: Driver) -> Stepped
 // One record. An event that joins the packet is written behind those that are held.
 pub fn receive(geometry: Geometry, driver: Driver, event: Event, packet: &mut [u8]) -> Stepped
     requires { ⌜ (allowed geometry ≡ true) × (length (now packet) ≡ packetLength) ⌝ }
-    ensures { λ r. ⌜ (r ≡ receiveOf geometry event driver) × (now (packet .exit) ≡ collected driver (receiveOf geometry event driver .driver) event (now (packet .entry))) ⌝ }
+    ensures { λ r. ⌜ (let received = receiveOf geometry event driver in
+        (r ≡ received) × (now (packet .exit) ≡ collected driver (received .driver) event (now (packet .entry)))) ⌝ }
 {
     let kind = kind_of(geometry, event);
     let value = event.value;

@@ -75,10 +75,9 @@ fn refused(answer: u8) -> Copied
 
 // Each pointer is fetched once. The count is the number of records copied, and how far the read pointer moved.
 pub fn copy_out(geometry: Geometry, area: &mut [u8], limit: u32, out: &mut [u8]) -> Copied
-    ensures { λ r. ⌜ r ≡ copyOf geometry (now (area .entry)) limit (now (out .entry)) .copied ⌝ }
-    ensures { λ r. ⌜ now (area .exit) ≡ copyOf geometry (now (area .entry)) limit (now (out .entry)) .area ⌝ }
-    ensures { λ r. ⌜ now (out .exit) ≡ copyOf geometry (now (area .entry)) limit (now (out .entry)) .out ⌝ }
-    ensures { λ r. ⌜ (r .answer ≡ 0 → r .count ≡ unreadCount (ringOf geometry) (readPointer (now (area .entry))) (readPointer (now (area .exit)))) ⌝ }
+    ensures { λ r. ⌜ (let copy = copyOf geometry (now (area .entry)) limit (now (out .entry)) in
+        (r ≡ copy .copied) × ((now (area .exit) ≡ copy .area) × ((now (out .exit) ≡ copy .out)
+        × (r .answer ≡ 0 → r .count ≡ unreadCount (ringOf geometry) (readPointer (now (area .entry))) (readPointer (now (area .exit))))))) ⌝ }
 {
     if !is_sized(geometry, area.len()) {
         return refused(INVALID);

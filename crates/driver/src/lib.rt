@@ -85,10 +85,9 @@ fn refusal_of(oldest: Oldest) -> u8
 
 // Reads one record. An event that joins the packet is written behind those before it.
 pub fn step(geometry: Geometry, driver: Driver, area: &mut [u8], packet: &mut [u8]) -> Stepped
-    ensures { λ r. ⌜ r ≡ stepOf geometry driver (now (area .entry)) (now (packet .entry)) .stepped ⌝ }
-    ensures { λ r. ⌜ now (area .exit) ≡ stepOf geometry driver (now (area .entry)) (now (packet .entry)) .area ⌝ }
-    ensures { λ r. ⌜ now (packet .exit) ≡ stepOf geometry driver (now (area .entry)) (now (packet .entry)) .packet ⌝ }
-    ensures { λ r. ⌜ answerOf (r .told) ≡ stepAnswer geometry driver (now (area .entry)) (now (packet .entry)) ⌝ }
+    ensures { λ r. ⌜ (let step = stepOf geometry driver (now (area .entry)) (now (packet .entry)) in
+        (r ≡ step .stepped) × ((now (area .exit) ≡ step .area) × ((now (packet .exit) ≡ step .packet)
+        × (answerOf (r .told) ≡ stepAnswer geometry driver (now (area .entry)) (now (packet .entry)))))) ⌝ }
 {
     if !is_valid(geometry, driver, area.len(), packet.len()) {
         return Stepped {

@@ -1,12 +1,9 @@
 -- What a step tells, as numbers: the answer, what was told, and the slot and the count of events where it has them.
 use Prim.Native.Nat.{ℕ}
-use mathlib.Core.List.{List}
-use Rattle.geometry.specs.declared.Geometry.{Geometry}
-use Rattle.assembly.specs.declared.Driver.{Driver}
+use Rattle.assembly.specs.declared.Stepped.{Stepped}
 use Rattle.assembly.specs.declared.Told.{Told}
 use Rattle.assembly.specs.declared.Told.the-variants as told
 use Rattle.assembly.specs.Transition.{answerOf}
-use Rattle.driver.specs.Step.{stepOf}
 use Rattle.driver_calls.specs.declared.StepAnswer.{StepAnswer}
 use Rattle.driver_calls.specs.declared.StepOutcome.{StepOutcome}
 
@@ -47,8 +44,5 @@ countOf told.ResetAll = 0
 abbrev pub numbersOf : Told → StepAnswer
 numbersOf what = record { answer = answerOf what; what = whatOf what; slot = slotOf what; count = countOf what }
 
-abbrev pub steppedOf : Geometry → Driver → List ℕ → List ℕ → StepOutcome
-steppedOf geometry driver area packet = record {
-  answer = numbersOf (stepOf geometry driver area packet .stepped .told);
-  driver = stepOf geometry driver area packet .stepped .driver;
-}
+abbrev pub steppedOf : Stepped → StepOutcome
+steppedOf stepped = record { answer = numbersOf (stepped .told); driver = stepped .driver }

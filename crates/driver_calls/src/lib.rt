@@ -73,7 +73,8 @@ fn numbers(told: Told) -> StepAnswer
 }
 
 fn step_rule(driver: Driver, geometry: Geometry, area: &mut [u8], packet: &mut [u8]) -> StepOutcome
-    ensures { λ r. ⌜ (r ≡ steppedOf geometry driver (now (area .entry)) (now (packet .entry))) × ((now (area .exit) ≡ stepOf geometry driver (now (area .entry)) (now (packet .entry)) .area) × (now (packet .exit) ≡ stepOf geometry driver (now (area .entry)) (now (packet .entry)) .packet)) ⌝ }
+    ensures { λ r. ⌜ (let step = stepOf geometry driver (now (area .entry)) (now (packet .entry)) in
+        (r ≡ steppedOf (step .stepped)) × ((now (area .exit) ≡ step .area) × (now (packet .exit) ≡ step .packet))) ⌝ }
 {
     let result = driver::step(geometry, driver, area, packet);
     let told = result.told;
@@ -98,7 +99,9 @@ pub extern "C" fn thayarqo_step(
     area: &mut [u8],
     packet: &mut [u8],
 ) -> StepAnswer
-    ensures { λ r. ⌜ (r ≡ steppedOf geometry (now (driver .entry)) (now (area .entry)) (now (packet .entry)) .answer) × (now (driver .exit) ≡ steppedOf geometry (now (driver .entry)) (now (area .entry)) (now (packet .entry)) .driver) × (now (area .exit) ≡ stepOf geometry (now (driver .entry)) (now (area .entry)) (now (packet .entry)) .area) × (now (packet .exit) ≡ stepOf geometry (now (driver .entry)) (now (area .entry)) (now (packet .entry)) .packet) ⌝ }
+    ensures { λ r. ⌜ (let step = stepOf geometry (now (driver .entry)) (now (area .entry)) (now (packet .entry)) in
+        (r ≡ numbersOf (step .stepped .told)) × (now (driver .exit) ≡ step .stepped .driver)
+        × (now (area .exit) ≡ step .area) × (now (packet .exit) ≡ step .packet)) ⌝ }
 {
     let out = step_rule(*driver, geometry, area, packet);
     *driver = out.driver;
@@ -112,7 +115,8 @@ pub extern "C" fn thayarqo_copy_out(
     limit: u32,
     out: &mut [u8],
 ) -> Copied
-    ensures { λ r. ⌜ (r ≡ copyOf geometry (now (area .entry)) limit (now (out .entry)) .copied) × (now (area .exit) ≡ copyOf geometry (now (area .entry)) limit (now (out .entry)) .area) × (now (out .exit) ≡ copyOf geometry (now (area .entry)) limit (now (out .entry)) .out) ⌝ }
+    ensures { λ r. ⌜ (let copy = copyOf geometry (now (area .entry)) limit (now (out .entry)) in
+        (r ≡ copy .copied) × (now (area .exit) ≡ copy .area) × (now (out .exit) ≡ copy .out)) ⌝ }
 {
     copy_out::copy_out(geometry, area, limit, out)
 }

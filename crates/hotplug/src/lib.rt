@@ -84,7 +84,8 @@ pub fn add_rule(
     slot: u32,
     entry: &[u8],
 ) -> Outcome
-    ensures { λ r. ⌜ (r ≡ addOf geometry device (now (area .entry)) (now (page .entry)) slot (now (entry .entry)) .outcome) × ((now (area .exit) ≡ addOf geometry device (now (area .entry)) (now (page .entry)) slot (now (entry .entry)) .area) × (now (page .exit) ≡ addOf geometry device (now (area .entry)) (now (page .entry)) slot (now (entry .entry)) .page)) ⌝ }
+    ensures { λ r. ⌜ (let added = addOf geometry device (now (area .entry)) (now (page .entry)) slot (now (entry .entry)) in
+        (r ≡ added .outcome) × ((now (area .exit) ≡ added .area) × (now (page .exit) ≡ added .page))) ⌝ }
 {
     let refusal = add_refusal(geometry, device, &area[..], &page[..], slot, entry);
     if refusal != DONE {
@@ -132,7 +133,8 @@ pub fn remove_rule(
     page: &mut [u8],
     slot: u32,
 ) -> Outcome
-    ensures { λ r. ⌜ (r ≡ removeOf geometry device (now (area .entry)) (now (page .entry)) slot .outcome) × ((now (area .exit) ≡ removeOf geometry device (now (area .entry)) (now (page .entry)) slot .area) × (now (page .exit) ≡ removeOf geometry device (now (area .entry)) (now (page .entry)) slot .page)) ⌝ }
+    ensures { λ r. ⌜ (let removed = removeOf geometry device (now (area .entry)) (now (page .entry)) slot in
+        (r ≡ removed .outcome) × ((now (area .exit) ≡ removed .area) × (now (page .exit) ≡ removed .page))) ⌝ }
 {
     let refusal = remove_refusal(geometry, device, &area[..], &page[..], slot);
     if refusal != DONE {

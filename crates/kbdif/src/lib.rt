@@ -71,7 +71,8 @@ fn store(place: &mut [u8], event: &[u8])
 
 // The back end's call. Its own index is the private one, never that of the page.
 pub fn put(page: &mut [u8], in_prod: u32, contact_limit: u32, event: &[u8]) -> Stored
-    ensures { λ r. ⌜ (r ≡ putOf (now (page .entry)) «in_prod» «contact_limit» (now (event .entry)) .result) × (now (page .exit) ≡ putOf (now (page .entry)) «in_prod» «contact_limit» (now (event .entry)) .page) ⌝ }
+    ensures { λ r. ⌜ (let stored = putOf (now (page .entry)) «in_prod» «contact_limit» (now (event .entry)) in
+        (r ≡ stored .result) × (now (page .exit) ≡ stored .page)) ⌝ }
 {
     let answer = put_refusal(&page[..], in_prod, contact_limit, event);
     if answer != DONE {
@@ -110,7 +111,8 @@ pub fn take_refusal(page: &[u8], in_cons: u32, contact_limit: u32) -> u8
 
 // The front end's call. Its own index is the private one, never that of the page.
 pub fn take(page: &mut [u8], in_cons: u32, contact_limit: u32) -> Taken
-    ensures { λ r. ⌜ (numberOf (r .found) ≡ takeNumber (now (page .entry)) «in_cons» «contact_limit») × (r ≡ takeOf (now (page .entry)) «in_cons» «contact_limit» .result) × (now (page .exit) ≡ takeOf (now (page .entry)) «in_cons» «contact_limit» .page) ⌝ }
+    ensures { λ r. ⌜ (let taken = takeOf (now (page .entry)) «in_cons» «contact_limit» in
+        (numberOf (r .found) ≡ takeNumber (now (page .entry)) «in_cons» «contact_limit») × (r ≡ taken .result) × (now (page .exit) ≡ taken .page)) ⌝ }
 {
     let answer = take_refusal(&page[..], in_cons, contact_limit);
     if answer != DONE {

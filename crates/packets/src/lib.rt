@@ -135,7 +135,8 @@ pub fn packet_rule(
     slot: u32,
     packet: &[u8],
 ) -> Outcome
-    ensures { λ r. ⌜ (r ≡ packetOf geometry device (now (area .entry)) (now (page .entry)) slot (now (packet .entry)) .outcome) × (now (area .exit) ≡ packetOf geometry device (now (area .entry)) (now (page .entry)) slot (now (packet .entry)) .area) ⌝ }
+    ensures { λ r. ⌜ (let put = packetOf geometry device (now (area .entry)) (now (page .entry)) slot (now (packet .entry)) in
+        (r ≡ put .outcome) × (now (area .exit) ≡ put .area)) ⌝ }
 {
     let refusal = packet_refusal(geometry, device, &area[..], page, slot, packet);
     match refusal {

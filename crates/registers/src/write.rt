@@ -106,7 +106,8 @@ pub fn write_rule(
     width: u32,
     value: u32,
 ) -> Outcome
-    ensures { λ r. ⌜ (r ≡ writeOf geometry device (now (area .entry)) (length (now (page .entry))) offset width value .outcome) × (now (area .exit) ≡ writeOf geometry device (now (area .entry)) (length (now (page .entry))) offset width value .area) ⌝ }
+    ensures { λ r. ⌜ (let written = writeOf geometry device (now (area .entry)) (length (now (page .entry))) offset width value in
+        (r ≡ written .outcome) × (now (area .exit) ≡ written .area)) ⌝ }
 {
     let valid = device::is_call(geometry, device, area.len(), page.len());
     let refusal = access_refusal(valid, geometry, true, offset, width);

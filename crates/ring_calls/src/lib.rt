@@ -78,7 +78,8 @@ pub extern "C" fn thayarqo_ring_put(
     contact_limit: u32,
     event: &[u8],
 ) -> u8
-    ensures { λ r. ⌜ (r ≡ putOf (now (page .entry)) (now («in_prod» .entry)) «contact_limit» (now (event .entry)) .result .answer) × (now («in_prod» .exit) ≡ putOf (now (page .entry)) (now («in_prod» .entry)) «contact_limit» (now (event .entry)) .result .«in_prod») × (now (page .exit) ≡ putOf (now (page .entry)) (now («in_prod» .entry)) «contact_limit» (now (event .entry)) .page) ⌝ }
+    ensures { λ r. ⌜ (let stored = putOf (now (page .entry)) (now («in_prod» .entry)) «contact_limit» (now (event .entry)) in
+        (r ≡ stored .result .answer) × (now («in_prod» .exit) ≡ stored .result .«in_prod») × (now (page .exit) ≡ stored .page)) ⌝ }
 {
     let stored = kbdif::put(page, *in_prod, contact_limit, event);
     *in_prod = stored.in_prod;
@@ -102,7 +103,8 @@ fn checked(clear: bool, event: RingNumbers) -> FoundNumbers
 
 fn pointer_at(bytes: &[u8], kind: u8) -> FoundNumbers
     requires { ⌜ length (now bytes) ≡ eventLength ⌝ }
-    ensures { λ r. ⌜ r ≡ checkedNumbers (zeroOutside (now (bytes .entry)) 1 4 16) (placeNumbers kind 0 0 (i32At (now (bytes .entry)) 4) (i32At (now (bytes .entry)) 8) (i32At (now (bytes .entry)) 12)) ⌝ }
+    ensures { λ r. ⌜ (let event = now (bytes .entry) in
+        r ≡ checkedNumbers (zeroOutside event 1 4 16) (placeNumbers kind 0 0 (i32At event 4) (i32At event 8) (i32At event 12))) ⌝ }
 {
     checked(
         kbdif_decode::pointer_is_clear(bytes),
@@ -119,7 +121,8 @@ fn pointer_at(bytes: &[u8], kind: u8) -> FoundNumbers
 
 fn key_at(bytes: &[u8]) -> FoundNumbers
     requires { ⌜ length (now bytes) ≡ eventLength ⌝ }
-    ensures { λ r. ⌜ r ≡ checkedNumbers (zeroOutside (now (bytes .entry)) 2 4 8 && leb (getD (now (bytes .entry)) 1 0) 1) (keyNumbers (eqb (getD (now (bytes .entry)) 1 0) 1) (u32At (now (bytes .entry)) 4)) ⌝ }
+    ensures { λ r. ⌜ (let event = now (bytes .entry) in
+        r ≡ checkedNumbers (zeroOutside event 2 4 8 && leb (getD event 1 0) 1) (keyNumbers (eqb (getD event 1 0) 1) (u32At event 4))) ⌝ }
 {
     let pressed = bytes[1];
     if pressed > 1 {
@@ -133,7 +136,8 @@ fn key_at(bytes: &[u8]) -> FoundNumbers
 
 fn placed_touch_at(bytes: &[u8], subtype: u8, contact_limit: u32) -> FoundNumbers
     requires { ⌜ length (now bytes) ≡ eventLength ⌝ }
-    ensures { λ r. ⌜ r ≡ checkedNumbers (zeroOutside (now (bytes .entry)) 3 8 16 && ltb (getD (now (bytes .entry)) 2 0) «contact_limit») (placeNumbers XENKBD-TYPE-MTOUCH subtype (getD (now (bytes .entry)) 2 0) (i32At (now (bytes .entry)) 8) (i32At (now (bytes .entry)) 12) (pos 0)) ⌝ }
+    ensures { λ r. ⌜ (let event = now (bytes .entry) in
+        r ≡ checkedNumbers (zeroOutside event 3 8 16 && ltb (getD event 2 0) «contact_limit») (placeNumbers XENKBD-TYPE-MTOUCH subtype (getD event 2 0) (i32At event 8) (i32At event 12) (pos 0))) ⌝ }
 {
     let contact = bytes[2];
     if contact as u32 >= contact_limit {
@@ -154,7 +158,8 @@ fn placed_touch_at(bytes: &[u8], subtype: u8, contact_limit: u32) -> FoundNumber
 
 fn bare_touch_at(bytes: &[u8], subtype: u8, contact_limit: u32) -> FoundNumbers
     requires { ⌜ length (now bytes) ≡ eventLength ⌝ }
-    ensures { λ r. ⌜ r ≡ checkedNumbers (zeroOutside (now (bytes .entry)) 3 8 8 && ltb (getD (now (bytes .entry)) 2 0) «contact_limit») (placeNumbers XENKBD-TYPE-MTOUCH subtype (getD (now (bytes .entry)) 2 0) (pos 0) (pos 0) (pos 0)) ⌝ }
+    ensures { λ r. ⌜ (let event = now (bytes .entry) in
+        r ≡ checkedNumbers (zeroOutside event 3 8 8 && ltb (getD event 2 0) «contact_limit») (placeNumbers XENKBD-TYPE-MTOUCH subtype (getD event 2 0) (pos 0) (pos 0) (pos 0))) ⌝ }
 {
     let contact = bytes[2];
     if contact as u32 >= contact_limit {
@@ -168,7 +173,8 @@ fn bare_touch_at(bytes: &[u8], subtype: u8, contact_limit: u32) -> FoundNumbers
 
 fn shape_at(bytes: &[u8], contact_limit: u32) -> FoundNumbers
     requires { ⌜ length (now bytes) ≡ eventLength ⌝ }
-    ensures { λ r. ⌜ r ≡ checkedNumbers (zeroOutside (now (bytes .entry)) 3 8 16 && ltb (getD (now (bytes .entry)) 2 0) «contact_limit») (shapeNumbers (getD (now (bytes .entry)) 2 0) (u32At (now (bytes .entry)) 8) (u32At (now (bytes .entry)) 12)) ⌝ }
+    ensures { λ r. ⌜ (let event = now (bytes .entry) in
+        r ≡ checkedNumbers (zeroOutside event 3 8 16 && ltb (getD event 2 0) «contact_limit») (shapeNumbers (getD event 2 0) (u32At event 8) (u32At event 12))) ⌝ }
 {
     let contact = bytes[2];
     if contact as u32 >= contact_limit {
@@ -186,7 +192,8 @@ fn shape_at(bytes: &[u8], contact_limit: u32) -> FoundNumbers
 
 fn orientation_at(bytes: &[u8], contact_limit: u32) -> FoundNumbers
     requires { ⌜ length (now bytes) ≡ eventLength ⌝ }
-    ensures { λ r. ⌜ r ≡ checkedNumbers (zeroOutside (now (bytes .entry)) 3 8 10 && ltb (getD (now (bytes .entry)) 2 0) «contact_limit») (orientNumbers (getD (now (bytes .entry)) 2 0) (i16At (now (bytes .entry)) 8)) ⌝ }
+    ensures { λ r. ⌜ (let event = now (bytes .entry) in
+        r ≡ checkedNumbers (zeroOutside event 3 8 10 && ltb (getD event 2 0) «contact_limit») (orientNumbers (getD event 2 0) (i16At event 8))) ⌝ }
 {
     let contact = bytes[2];
     if contact as u32 >= contact_limit {
@@ -236,7 +243,8 @@ pub extern "C" fn thayarqo_ring_take(
     in_cons: &mut u32,
     contact_limit: u32,
 ) -> FoundNumbers
-    ensures { λ r. ⌜ (r ≡ foundOf (takeOf (now (page .entry)) (now («in_cons» .entry)) «contact_limit» .result .found)) × (now («in_cons» .exit) ≡ takeOf (now (page .entry)) (now («in_cons» .entry)) «contact_limit» .result .«in_cons») × (now (page .exit) ≡ takeOf (now (page .entry)) (now («in_cons» .entry)) «contact_limit» .page) ⌝ }
+    ensures { λ r. ⌜ (let taken = takeOf (now (page .entry)) (now («in_cons» .entry)) «contact_limit» in
+        (r ≡ foundOf (taken .result .found)) × (now («in_cons» .exit) ≡ taken .result .«in_cons») × (now (page .exit) ≡ taken .page)) ⌝ }
 {
     let index = *in_cons;
     let answer = kbdif::take_refusal(&page[..], index, contact_limit);

@@ -15,7 +15,8 @@ pub extern "C" fn thayarqo_fresh_settings() -> Settings
 
 #[no_mangle]
 pub extern "C" fn thayarqo_node(settings: &mut Settings, name: &[u8], value: &[u8]) -> u8
-    ensures { λ r. ⌜ (r ≡ readNode (now (settings .entry)) (now (name .entry)) (now (value .entry)) .answer) × (now (settings .exit) ≡ readNode (now (settings .entry)) (now (name .entry)) (now (value .entry)) .settings) ⌝ }
+    ensures { λ r. ⌜ (let read = readNode (now (settings .entry)) (now (name .entry)) (now (value .entry)) in
+        (r ≡ read .answer) × (now (settings .exit) ≡ read .settings)) ⌝ }
 {
     let out = nodes::read_node(*settings, name, value);
     *settings = out.settings;

@@ -87,8 +87,8 @@ fn switched(device: Device, interrupts: bool, index: u32) -> Device
 
 pub fn start(geometry: Geometry, device: Device, area: &mut [u8], interrupts: bool) -> Outcome
     requires { ⌜ (allowed geometry ≡ true) × (Holds (length (now area)) (ringOf geometry)) ⌝ }
-    ensures { λ r. ⌜ r ≡ switchOn geometry device (now (area .entry)) interrupts .outcome ⌝ }
-    ensures { λ r. ⌜ now (area .exit) ≡ switchOn geometry device (now (area .entry)) interrupts .area ⌝ }
+    ensures { λ r. ⌜ (let started = switchOn geometry device (now (area .entry)) interrupts in
+        (r ≡ started .outcome) × (now (area .exit) ≡ started .area)) ⌝ }
 {
     let ring = geometry::ring_of(geometry);
     let slots = geometry::slot_count(geometry);

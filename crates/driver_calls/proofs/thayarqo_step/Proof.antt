@@ -128,7 +128,7 @@ module _ {M : Type 1} (𝓤 : URA M) (H : Heap 𝓤) (A : Atoms 𝓤) (W : Given
 
   -- what `guest::step_rule` ensures, at the result r and the last lists
   abbrev Ruled : StepOutcome → List ℕ → List ℕ → Type 0
-  Ruled r zs₂ zs₃ = (r ≡ steppedOf n₁ h ys₂ ys₃) × ((zs₂ ≡ stepOf n₁ h ys₂ ys₃ .area) × (zs₃ ≡ stepOf n₁ h ys₂ ys₃ .packet))
+  Ruled r zs₂ zs₃ = (r ≡ steppedOf (stepOf n₁ h ys₂ ys₃ .stepped)) × ((zs₂ ≡ stepOf n₁ h ys₂ ys₃ .area) × (zs₃ ≡ stepOf n₁ h ys₂ ys₃ .packet))
 
   exits : (r : StepOutcome) (zs₂ : List ℕ) (zs₃ : List ℕ) → Ruled r zs₂ zs₃ → length zs₂ ≡ length ys₂ → length zs₃ ≡ length ys₃ → Is StepAnswerT.the-row (r .answer) (LL.val StepAnswerT.the-type StepAnswerL.the-laws (r .answer) ∷ [])
       → ent 𝓤 (⋆ 𝓤 H A (‵ (fobs γ (R .coded .code (r .driver))) ∷ ‵ (fbor κ (Body (mem R) b o γ)) ∷ ‵ (flft κ q) ∷ tokens ∷ ‵ (finally u8 γ₃ zs₃) ∷ ‵ (finally u8 γ₂ zs₂) ∷ [])) (Post (LL.val StepAnswerT.the-type StepAnswerL.the-laws (r .answer)))
