@@ -78,22 +78,8 @@ val = LL.val DriverT.the-type DriverL.the-laws
 abbrev Rule : {M : Type 1} (𝓤 : URA M) (H : Heap 𝓤) (A : Atoms 𝓤) (mem : Memory → SProp 𝓤) (run : Routine → Fun 𝓤) → Contract 𝓤
 Rule 𝓤 H A mem run = tripleOf 𝓤 H A rule.signature (rule.spec 𝓤 H A mem run)
 
-module _ {M : Type 1} (𝓤 : URA M) (H : Heap 𝓤) (A : Atoms 𝓤) (W : Given 𝓤 H A) (at-mem : Memory → SProp 𝓤) (run : Routine → Fun 𝓤) (κ : Lft) (q : Share) (b o : ℕ) (γ : GName) (h : Driver) (n₁ : Geometry) (ok₁ : Is GeometryT.the-row n₁ (LL.val GeometryT.the-type GeometryL.the-laws n₁ ∷ [])) (κ₂ : Lft) (q₂ : Share) (b₂ o₂ : ℕ) (γ₂ : GName) (ys₂ : List ℕ) (room₂ : Room u8 (length ys₂)) (κ₃ : Lft) (q₃ : Share) (b₃ o₃ : ℕ) (γ₃ : GName) (ys₃ : List ℕ) (room₃ : Room u8 (length ys₃)) (bounds : AllOutlive 3 (self.signature .outlives) (κ, (κ₂, (κ₃, tt)))) where
-  -- area
-  abbrev x₂ : RefT (List ℕ)
-  x₂ = record { ptr = (b₂, o₂); name = γ₂; now = ys₂ }
-
-  abbrev s₂ : Val
-  s₂ = sliceVal (b₂, o₂) (length ys₂)
-
-  -- packet
-  abbrev x₃ : RefT (List ℕ)
-  x₃ = record { ptr = (b₃, o₃); name = γ₃; now = ys₃ }
-
-  abbrev s₃ : Val
-  s₃ = sliceVal (b₃, o₃) (length ys₃)
-
-  -- what is passed to the function, and its machine values
+module _ {M : Type 1} (𝓤 : URA M) (H : Heap 𝓤) (A : Atoms 𝓤) (W : Given 𝓤 H A) (at-mem : Memory → SProp 𝓤) (run : Routine → Fun 𝓤) (κ : Lft) (q : Share) (b o : ℕ) (γ : GName) (h : Driver) (n₁ : Geometry) (ok₁ : Is GeometryT.the-row n₁ (LL.val GeometryT.the-type GeometryL.the-laws n₁ ∷ [])) (κ₂ : Lft) (q₂ : Share) (x₂ : RefT (List ℕ)) (room₂ : Room u8 (length (x₂ .now))) (κ₃ : Lft) (q₃ : Share) (x₃ : RefT (List ℕ)) (room₃ : Room u8 (length (x₃ .now))) (bounds : AllOutlive 3 (self.signature .outlives) (κ, (κ₂, (κ₃, tt)))) where
+  -- what is passed to the function, and its machine values: x₂ the area, x₃ the packet
   abbrev Arg : Type 0
   Arg = RefT Driver × (Geometry × (RefT (List ℕ) × (RefT (List ℕ) × Unit {0})))
 
@@ -101,7 +87,10 @@ module _ {M : Type 1} (𝓤 : URA M) (H : Heap 𝓤) (A : Atoms 𝓤) (W : Given
   a = (record { ptr = (b, o); name = γ; now = h }, (n₁, (x₂, (x₃, tt))))
 
   abbrev vals : List Val × (List Val × (List Val × (List Val × Unit {0})))
-  vals = (vptr b o ∷ [], (LL.val GeometryT.the-type GeometryL.the-laws n₁ ∷ [], (s₂ ∷ [], (s₃ ∷ [], tt))))
+  vals = (vptr b o ∷ [], (LL.val GeometryT.the-type GeometryL.the-laws n₁ ∷ [], (slice-vals x₂, (slice-vals x₃, tt))))
+
+  abbrev given : List Val
+  given = vptr b o ∷ LL.val GeometryT.the-type GeometryL.the-laws n₁ ∷ sliceVal (x₂ .ptr) (length (x₂ .now)) ∷ slice-vals x₃
 
   abbrev Post : Val → SProp 𝓤
   Post = walkOf 𝓤 H A self.ended stayed (self.clauses 𝓤 H A at-mem run) .post (((κ, (κ₂, (κ₃, tt))), (q, (q₂, (q₃, tt))), bounds, a, vals), tt)
@@ -114,26 +103,26 @@ module _ {M : Type 1} (𝓤 : URA M) (H : Heap 𝓤) (A : Atoms 𝓤) (W : Given
   passed = (h, (n₁, (x₂, (x₃, tt))))
 
   abbrev to-rule : Rule 𝓤 H A at-mem run .Ghost
-  to-rule = (((κ₂, (κ₃, tt)), (q₂, (q₃, tt)), tt, passed, (val h ∷ [], (LL.val GeometryT.the-type GeometryL.the-laws n₁ ∷ [], (s₂ ∷ [], (s₃ ∷ [], tt))))), tt)
+  to-rule = (((κ₂, (κ₃, tt)), (q₂, (q₃, tt)), tt, passed, (val h ∷ [], (LL.val GeometryT.the-type GeometryL.the-laws n₁ ∷ [], (slice-vals x₂, (slice-vals x₃, tt))))), tt)
 
   -- the other lifetimes' tokens, and what the other parameters own
   abbrev tokens : Item 𝓤
   tokens = ‵ (flft κ₂ q₂) ⊛ ‵ (flft κ₃ q₃) ⊛ ‵ ftrue
 
   abbrev rest : Fml
-  rest = owns (GeometryT.the-row ∷ MutSlice (named 1) κ₂ u8 ∷ MutSlice (named 2) κ₃ u8 ∷ []) (n₁, (x₂, (x₃, tt))) (LL.val GeometryT.the-type GeometryL.the-laws n₁ ∷ [], (s₂ ∷ [], (s₃ ∷ [], tt)))
+  rest = owns (GeometryT.the-row ∷ MutSlice (named 1) κ₂ u8 ∷ MutSlice (named 2) κ₃ u8 ∷ []) (n₁, (x₂, (x₃, tt))) (LL.val GeometryT.the-type GeometryL.the-laws n₁ ∷ [], (slice-vals x₂, (slice-vals x₃, tt)))
 
   goes-rule : ent 𝓤 (⋆ 𝓤 H A (tokens ∷ ‵ (R .own h (val h ∷ [])) ∷ ‵ rest ∷ [])) (Rule 𝓤 H A at-mem run .pre to-rule)
   goes-rule = qed W (tokens ∷ ‵ (R .own h (val h ∷ [])) ∷ ‵ rest ∷ []) ∵ move ! (1 ∷ 2 ∷ []) $ fjoin ! $ move ! (1 ∷ 0 ∷ []) $ join ! $ frame ! $ done !
 
   -- what `guest::step_rule` ensures, at the result r and the last lists
   abbrev Ruled : StepOutcome → List ℕ → List ℕ → Type 0
-  Ruled r zs₂ zs₃ = (r ≡ steppedOf (stepOf n₁ h ys₂ ys₃ .stepped)) × ((zs₂ ≡ stepOf n₁ h ys₂ ys₃ .area) × (zs₃ ≡ stepOf n₁ h ys₂ ys₃ .packet))
+  Ruled r zs₂ zs₃ = (r ≡ steppedOf (stepOf n₁ h (x₂ .now) (x₃ .now) .stepped)) × ((zs₂ ≡ stepOf n₁ h (x₂ .now) (x₃ .now) .area) × (zs₃ ≡ stepOf n₁ h (x₂ .now) (x₃ .now) .packet))
 
-  exits : (r : StepOutcome) (zs₂ : List ℕ) (zs₃ : List ℕ) → Ruled r zs₂ zs₃ → length zs₂ ≡ length ys₂ → length zs₃ ≡ length ys₃ → Is StepAnswerT.the-row (r .answer) (LL.val StepAnswerT.the-type StepAnswerL.the-laws (r .answer) ∷ [])
-      → ent 𝓤 (⋆ 𝓤 H A (‵ (fobs γ (R .coded .code (r .driver))) ∷ ‵ (fbor κ (Body (mem R) b o γ)) ∷ ‵ (flft κ q) ∷ tokens ∷ ‵ (finally u8 γ₃ zs₃) ∷ ‵ (finally u8 γ₂ zs₂) ∷ [])) (Post (LL.val StepAnswerT.the-type StepAnswerL.the-laws (r .answer)))
+  exits : (r : StepOutcome) (zs₂ : List ℕ) (zs₃ : List ℕ) → Ruled r zs₂ zs₃ → length zs₂ ≡ length (x₂ .now) → length zs₃ ≡ length (x₃ .now) → Is StepAnswerT.the-row (r .answer) (LL.val StepAnswerT.the-type StepAnswerL.the-laws (r .answer) ∷ [])
+      → ent 𝓤 (⋆ 𝓤 H A (‵ (fobs γ (R .coded .code (r .driver))) ∷ ‵ (fbor κ (Body (mem R) b o γ)) ∷ ‵ (flft κ q) ∷ tokens ∷ ‵ (finally u8 (x₃ .name) zs₃) ∷ ‵ (finally u8 (x₂ .name) zs₂) ∷ [])) (Post (LL.val StepAnswerT.the-type StepAnswerL.the-laws (r .answer)))
   exits r zs₂ zs₃ e l₂ l₃ ok =
-      qed W (‵ (fobs γ (R .coded .code (r .driver))) ∷ ‵ (fbor κ (Body (mem R) b o γ)) ∷ ‵ (flft κ q) ∷ tokens ∷ ‵ (finally u8 γ₃ zs₃) ∷ ‵ (finally u8 γ₂ zs₂) ∷ []) ∵
+      qed W (‵ (fobs γ (R .coded .code (r .driver))) ∷ ‵ (fbor κ (Body (mem R) b o γ)) ∷ ‵ (flft κ q) ∷ tokens ∷ ‵ (finally u8 (x₃ .name) zs₃) ∷ ‵ (finally u8 (x₂ .name) zs₂) ∷ []) ∵
       suffices ! _ (ends-at 𝓤 H A self.ended stayed (self.clauses 𝓤 H A at-mem run) W (((κ, (κ₂, (κ₃, tt))), (q, (q₂, (q₃, tt))), bounds, a, vals), tt) (LL.val StepAnswerT.the-type StepAnswerL.the-laws (r .answer)) (r .answer) ((r .driver), (tt, (zs₂, (zs₃, tt)))) (tt, (tt, (l₂, (l₃, tt))))) $
       says ! (ap (λ (z : StepOutcome). z .answer) (e .0), ap (λ (z : StepOutcome). z .driver) (e .0), e .1 .0, e .1 .1) $ move ! (2 ∷ 3 ∷ []) $ join ! $ frame ! $
       -- what is had of the parameters, from the last to the first; and the result
@@ -141,9 +130,9 @@ module _ {M : Type 1} (𝓤 : URA M) (H : Heap 𝓤) (A : Atoms 𝓤) (W : Given
       owned ! StepAnswerT.the-row (Is StepAnswerT.the-row) (LL.makes StepAnswerT.the-type StepAnswerL.the-plain 𝓤 H A) (r .answer) _ ok $ done !
 
   module _ (C : Calls 𝓤 H) (Λ : Loops 𝓤 H) (fm : FmC 𝓤 H (W .laws) C) (known : Triple 𝓤 (C #rule) (Rule 𝓤 H A at-mem run)) where
-    walk : ent 𝓤 (onEntry 𝓤 H A self.signature (κ, (κ₂, (κ₃, tt))) (q, (q₂, (q₃, tt))) a vals) (WpFn 𝓤 H C Λ code.function (vptr b o ∷ LL.val GeometryT.the-type GeometryL.the-laws n₁ ∷ s₂ ∷ s₃ ∷ []) Post)
+    walk : ent 𝓤 (onEntry 𝓤 H A self.signature (κ, (κ₂, (κ₃, tt))) (q, (q₂, (q₃, tt))) a vals) (WpFn 𝓤 H C Λ code.function given Post)
     walk =
-        qed W ((‵ (flft κ q) ⊛ tokens) ∷ ‵ (owns (MutRef (named 0) κ R ∷ GeometryT.the-row ∷ MutSlice (named 1) κ₂ u8 ∷ MutSlice (named 2) κ₃ u8 ∷ []) a vals) ∷ []) ∵ enter ! C Λ code.function (vptr b o ∷ LL.val GeometryT.the-type GeometryL.the-laws n₁ ∷ s₂ ∷ s₃ ∷ []) _ $
+        qed W ((‵ (flft κ q) ⊛ tokens) ∷ ‵ (owns (MutRef (named 0) κ R ∷ GeometryT.the-row ∷ MutSlice (named 1) κ₂ u8 ∷ MutSlice (named 2) κ₃ u8 ∷ []) a vals) ∷ []) ∵ enter ! C Λ code.function given _ $
         alloc1 ! (λ l₀. alloc1 ! (λ l₁. alloc1 ! (λ l₂. alloc1 ! (λ l₃. alloc1 ! (λ l₄. alloc1 ! (λ l₅. alloc1 ! (λ l₆. alloc1 ! (λ l₇. alloc1 ! (λ l₈. alloc1 ! (λ l₉. alloc1 ! (λ l₁₀. alloc0 ! $ params1 ! $
         pass1 ! (init ! 18 refl (tt, tt)) $ pass1 ! (init ! 16 refl (LL.lawful GeometryT.the-type GeometryL.the-laws 𝓤 H A W .typed n₁ _ ok₁ .0)) $ pass1 ! (init ! 14 refl (tt, (tt, (record { fits = room₂ .0 }, tt)))) $ pass1 ! (init ! 12 refl (tt, (tt, (record { fits = room₃ .0 }, tt)))) $ pass0 ! $
         -- [_10; …; .. ; room for _0; …; the tokens; what the parameters own]: the device's borrow is opened
@@ -183,8 +172,8 @@ module _ {M : Type 1} (𝓤 : URA M) (H : Heap 𝓤) (A : Atoms 𝓤) (W : Given
       (λ κs. (ptr-vals, (LL.vals GeometryT.the-type GeometryL.the-laws, (slice-vals, (slice-vals, tt))))) (λ κs. (mut-tells (named 0) (κs .0) R, (LL.tells GeometryT.the-type GeometryL.the-laws, (mut-slice-tells (named 1) (κs .1 .0) u8, (mut-slice-tells (named 2) (κs .1 .1 .0) u8, tt)))))
       (λ κs qs bounds a _ are. via 𝓤 _ (fst∗ 𝓤 _ (emp 𝓤)) (walk 𝓤 H A W mem run (κs .0) (qs .0) (a .0 .ptr .0) (a .0 .ptr .1) (a .0 .name) (a .0 .now)
       (a .1 .0) (are .1 .0)
-      (κs .1 .0) (qs .1 .0) (a .1 .1 .0 .ptr .0) (a .1 .1 .0 .ptr .1) (a .1 .1 .0 .name) (a .1 .1 .0 .now) (are .1 .1 .0 .0 .1)
-      (κs .1 .1 .0) (qs .1 .1 .0) (a .1 .1 .1 .0 .ptr .0) (a .1 .1 .1 .0 .ptr .1) (a .1 .1 .1 .0 .name) (a .1 .1 .1 .0 .now) (are .1 .1 .1 .0 .0 .1)
+      (κs .1 .0) (qs .1 .0) (a .1 .1 .0) (are .1 .1 .0 .0 .1)
+      (κs .1 .1 .0) (qs .1 .1 .0) (a .1 .1 .1 .0) (are .1 .1 .1 .0 .0 .1)
       bounds C Λ fm known))
 
 meets : {M : Type 1} (𝓤 : URA M) (H : Heap 𝓤) (A : Atoms 𝓤) → Given 𝓤 H A → (mem : Memory → SProp 𝓤) (run : Routine → Fun 𝓤) (𝓣 : Tables 𝓤 H) → Triple 𝓤 (𝓣 .C #rule) (Rule 𝓤 H A mem run)

@@ -73,22 +73,8 @@ val = LL.val SettingsT.the-type SettingsL.the-laws
 abbrev Rule : {M : Type 1} (𝓤 : URA M) (H : Heap 𝓤) (A : Atoms 𝓤) (mem : Memory → SProp 𝓤) (run : Routine → Fun 𝓤) → Contract 𝓤
 Rule 𝓤 H A mem run = tripleOf 𝓤 H A rule.signature (rule.spec 𝓤 H A mem run)
 
-module _ {M : Type 1} (𝓤 : URA M) (H : Heap 𝓤) (A : Atoms 𝓤) (W : Given 𝓤 H A) (at-mem : Memory → SProp 𝓤) (run : Routine → Fun 𝓤) (κ : Lft) (q : Share) (b o : ℕ) (γ : GName) (h : Settings) (κ₁ : Lft) (q₁ : Share) (b₁ o₁ : ℕ) (γ₁ : GName) (ys₁ : List ℕ) (room₁ : Room u8 (length ys₁)) (κ₂ : Lft) (q₂ : Share) (b₂ o₂ : ℕ) (γ₂ : GName) (ys₂ : List ℕ) (room₂ : Room u8 (length ys₂)) (bounds : AllOutlive 3 (self.signature .outlives) (κ, (κ₁, (κ₂, tt)))) where
-  -- name
-  abbrev x₁ : RefT (List ℕ)
-  x₁ = record { ptr = (b₁, o₁); name = γ₁; now = ys₁ }
-
-  abbrev s₁ : Val
-  s₁ = sliceVal (b₁, o₁) (length ys₁)
-
-  -- value
-  abbrev x₂ : RefT (List ℕ)
-  x₂ = record { ptr = (b₂, o₂); name = γ₂; now = ys₂ }
-
-  abbrev s₂ : Val
-  s₂ = sliceVal (b₂, o₂) (length ys₂)
-
-  -- what is passed to the function, and its machine values
+module _ {M : Type 1} (𝓤 : URA M) (H : Heap 𝓤) (A : Atoms 𝓤) (W : Given 𝓤 H A) (at-mem : Memory → SProp 𝓤) (run : Routine → Fun 𝓤) (κ : Lft) (q : Share) (b o : ℕ) (γ : GName) (h : Settings) (κ₁ : Lft) (q₁ : Share) (x₁ : RefT (List ℕ)) (room₁ : Room u8 (length (x₁ .now))) (κ₂ : Lft) (q₂ : Share) (x₂ : RefT (List ℕ)) (room₂ : Room u8 (length (x₂ .now))) (bounds : AllOutlive 3 (self.signature .outlives) (κ, (κ₁, (κ₂, tt)))) where
+  -- what is passed to the function, and its machine values: x₁ the name, x₂ the value
   abbrev Arg : Type 0
   Arg = RefT Settings × (RefT (List ℕ) × (RefT (List ℕ) × Unit {0}))
 
@@ -96,7 +82,10 @@ module _ {M : Type 1} (𝓤 : URA M) (H : Heap 𝓤) (A : Atoms 𝓤) (W : Given
   a = (record { ptr = (b, o); name = γ; now = h }, (x₁, (x₂, tt)))
 
   abbrev vals : List Val × (List Val × (List Val × Unit {0}))
-  vals = (vptr b o ∷ [], (s₁ ∷ [], (s₂ ∷ [], tt)))
+  vals = (vptr b o ∷ [], (slice-vals x₁, (slice-vals x₂, tt)))
+
+  abbrev given : List Val
+  given = vptr b o ∷ sliceVal (x₁ .ptr) (length (x₁ .now)) ∷ slice-vals x₂
 
   abbrev Post : Val → SProp 𝓤
   Post = walkOf 𝓤 H A self.ended stayed (self.clauses 𝓤 H A at-mem run) .post (((κ, (κ₁, (κ₂, tt))), (q, (q₁, (q₂, tt))), bounds, a, vals), tt)
@@ -109,21 +98,21 @@ module _ {M : Type 1} (𝓤 : URA M) (H : Heap 𝓤) (A : Atoms 𝓤) (W : Given
   passed = (h, (x₁, (x₂, tt)))
 
   abbrev to-rule : Rule 𝓤 H A at-mem run .Ghost
-  to-rule = (((κ₁, (κ₂, tt)), (q₁, (q₂, tt)), tt, passed, (val h ∷ [], (s₁ ∷ [], (s₂ ∷ [], tt)))), tt)
+  to-rule = (((κ₁, (κ₂, tt)), (q₁, (q₂, tt)), tt, passed, (val h ∷ [], (slice-vals x₁, (slice-vals x₂, tt)))), tt)
 
   -- the other lifetimes' tokens, and what the other parameters own
   abbrev tokens : Item 𝓤
   tokens = ‵ (flft κ₁ q₁) ⊛ ‵ (flft κ₂ q₂) ⊛ ‵ ftrue
 
   abbrev rest : Fml
-  rest = owns (ShrSlice (named 1) κ₁ u8 ∷ ShrSlice (named 2) κ₂ u8 ∷ []) (x₁, (x₂, tt)) (s₁ ∷ [], (s₂ ∷ [], tt))
+  rest = owns (ShrSlice (named 1) κ₁ u8 ∷ ShrSlice (named 2) κ₂ u8 ∷ []) (x₁, (x₂, tt)) (slice-vals x₁, (slice-vals x₂, tt))
 
   goes-rule : ent 𝓤 (⋆ 𝓤 H A (tokens ∷ ‵ (R .own h (val h ∷ [])) ∷ ‵ rest ∷ [])) (Rule 𝓤 H A at-mem run .pre to-rule)
   goes-rule = qed W (tokens ∷ ‵ (R .own h (val h ∷ [])) ∷ ‵ rest ∷ []) ∵ move ! (1 ∷ 2 ∷ []) $ fjoin ! $ move ! (1 ∷ 0 ∷ []) $ join ! $ frame ! $ done !
 
   -- what `read_node` ensures, at the result r
   abbrev Ruled : NodeAnswer → Type 0
-  Ruled r = r ≡ readNode h ys₁ ys₂
+  Ruled r = r ≡ readNode h (x₁ .now) (x₂ .now)
 
   exits : (r : NodeAnswer) → Ruled r → (r .answer) < 2 ^ 8
       → ent 𝓤 (⋆ 𝓤 H A (‵ (fobs γ (R .coded .code (r .settings))) ∷ ‵ (fbor κ (Body (mem R) b o γ)) ∷ ‵ (flft κ q) ∷ tokens ∷ [])) (Post (vint w8 (r .answer)))
@@ -136,9 +125,9 @@ module _ {M : Type 1} (𝓤 : URA M) (H : Heap 𝓤) (A : Atoms 𝓤) (W : Given
       owned ! u8 (Is u8) (uint-makes 𝓤 H A W w8) (r .answer) _ (refl, ok) $ done !
 
   module _ (C : Calls 𝓤 H) (Λ : Loops 𝓤 H) (fm : FmC 𝓤 H (W .laws) C) (known : Triple 𝓤 (C #rule) (Rule 𝓤 H A at-mem run)) where
-    walk : ent 𝓤 (onEntry 𝓤 H A self.signature (κ, (κ₁, (κ₂, tt))) (q, (q₁, (q₂, tt))) a vals) (WpFn 𝓤 H C Λ code.function (vptr b o ∷ s₁ ∷ s₂ ∷ []) Post)
+    walk : ent 𝓤 (onEntry 𝓤 H A self.signature (κ, (κ₁, (κ₂, tt))) (q, (q₁, (q₂, tt))) a vals) (WpFn 𝓤 H C Λ code.function given Post)
     walk =
-        qed W ((‵ (flft κ q) ⊛ tokens) ∷ ‵ (owns (MutRef (named 0) κ R ∷ ShrSlice (named 1) κ₁ u8 ∷ ShrSlice (named 2) κ₂ u8 ∷ []) a vals) ∷ []) ∵ enter ! C Λ code.function (vptr b o ∷ s₁ ∷ s₂ ∷ []) _ $
+        qed W ((‵ (flft κ q) ⊛ tokens) ∷ ‵ (owns (MutRef (named 0) κ R ∷ ShrSlice (named 1) κ₁ u8 ∷ ShrSlice (named 2) κ₂ u8 ∷ []) a vals) ∷ []) ∵ enter ! C Λ code.function given _ $
         alloc1 ! (λ l₀. alloc1 ! (λ l₁. alloc1 ! (λ l₂. alloc1 ! (λ l₃. alloc1 ! (λ l₄. alloc1 ! (λ l₅. alloc0 ! $ params1 ! $
         pass1 ! (init ! 8 refl (tt, tt)) $ pass1 ! (init ! 6 refl (tt, (tt, (record { fits = room₁ .0 }, tt)))) $ pass1 ! (init ! 4 refl (tt, (tt, (record { fits = room₂ .0 }, tt)))) $ pass0 ! $
         -- [_5; …; .. ; room for _0; …; the tokens; what the parameters own]: the device's borrow is opened
@@ -173,8 +162,8 @@ module _ {M : Type 1} (𝓤 : URA M) (H : Heap 𝓤) (A : Atoms 𝓤) (W : Given
   walks C Λ fm known = walked 𝓤 H A self.ended stayed (self.clauses 𝓤 H A mem run) (WpFn 𝓤 H C Λ code.function)
       (λ κs. (ptr-vals, (slice-vals, (slice-vals, tt)))) (λ κs. (mut-tells (named 0) (κs .0) R, (shr-slice-tells (named 1) (κs .1 .0) u8, (shr-slice-tells (named 2) (κs .1 .1 .0) u8, tt))))
       (λ κs qs bounds a _ are. via 𝓤 _ (fst∗ 𝓤 _ (emp 𝓤)) (walk 𝓤 H A W mem run (κs .0) (qs .0) (a .0 .ptr .0) (a .0 .ptr .1) (a .0 .name) (a .0 .now)
-      (κs .1 .0) (qs .1 .0) (a .1 .0 .ptr .0) (a .1 .0 .ptr .1) (a .1 .0 .name) (a .1 .0 .now) (are .1 .0 .0 .1)
-      (κs .1 .1 .0) (qs .1 .1 .0) (a .1 .1 .0 .ptr .0) (a .1 .1 .0 .ptr .1) (a .1 .1 .0 .name) (a .1 .1 .0 .now) (are .1 .1 .0 .0 .1)
+      (κs .1 .0) (qs .1 .0) (a .1 .0) (are .1 .0 .0 .1)
+      (κs .1 .1 .0) (qs .1 .1 .0) (a .1 .1 .0) (are .1 .1 .0 .0 .1)
       bounds C Λ fm known))
 
 meets : {M : Type 1} (𝓤 : URA M) (H : Heap 𝓤) (A : Atoms 𝓤) → Given 𝓤 H A → (mem : Memory → SProp 𝓤) (run : Routine → Fun 𝓤) (𝓣 : Tables 𝓤 H) → Triple 𝓤 (𝓣 .C #rule) (Rule 𝓤 H A mem run)
