@@ -1,14 +1,19 @@
 -- The devices, pages and packets that the cases speak of.
 use Prim.Native.Nat.{ℕ, zero, suc}
-use mathlib.Core.Bool.{true, false}
+use mathlib.Core.Bool.{false}
 use mathlib.Core.List.{List, [], _++_}
 use lib.ListN.{replicate}
 use Rattle.words.specs.Words.{setU32}
 use Rattle.geometry.specs.declared.Geometry.{Geometry}
 use Rattle.records.specs.Event.{eventBytes}
-use Rattle.records.specs.Codes.{EV-REL, noSlot}
+use Rattle.records.specs.Codes.{EV-REL}
 use Rattle.records.specs.Ring.{withReadPointer, withWritePointer}
 use Rattle.device.specs.declared.Device.{Device}
+use Rattle.device.specs.State.{freshDevice}
+use Rattle.hotplug.specs.State.{afterAdd}
+use Rattle.packets.specs.Rule.{afterPacket}
+use Rattle.registers.specs.Write.{withClientRev}
+use Rattle.switch_on.specs.SwitchOn.{switchedOn}
 
 abbrev pub sizes : ℕ → ℕ → ℕ → Geometry
 sizes pages recordSize entrySize = record { pages = pages; «record_size» = recordSize; «entry_size» = entrySize }
@@ -24,32 +29,13 @@ coarse = sizes 1 64 68
 abbrev pub page : List ℕ
 page = setU32 (replicate 4096 0) 312 5
 
+-- It was added to a fresh device, and CLIENT_REV written.
 abbrev pub off : Device
-off = record {
-  on = false;
-  interrupts = false;
-  isr = false;
-  lost = false;
-  «client_rev_written» = true;
-  «client_rev» = 2;
-  «write_index» = 0;
-  «current_slot» = noSlot;
-  taken = 16;
-}
+off = withClientRev 2 (afterAdd 4 0 freshDevice)
 
--- Slot 4 is current, and so many records have been put.
+-- It is on, slot 4 is current, and so many records have been put.
 abbrev pub on : ℕ → Device
-on index = record {
-  on = true;
-  interrupts = false;
-  isr = false;
-  lost = false;
-  «client_rev_written» = true;
-  «client_rev» = 2;
-  «write_index» = index;
-  «current_slot» = 4;
-  taken = 16;
-}
+on index = afterPacket 4 index (switchedOn false 0 off)
 
 -- An event area with these pointers.
 abbrev pub area : ℕ → ℕ → List ℕ

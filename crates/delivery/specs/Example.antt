@@ -2,16 +2,19 @@
 -- nothing to read at the end. Its log is computed from the same definitions.
 use Prim.Native.Nat.{ℕ, zero, suc}
 use mathlib.Core.Path.{_≡_}
-use mathlib.Core.Bool.{true, false}
+use mathlib.Core.Bool.{true}
 use mathlib.Core.List.{List, [], _∷_, _++_}
 use lib.ListN.{replicate}
 use Rattle.words.specs.Words.{setU32}
 use Rattle.geometry.specs.declared.Geometry.{Geometry}
 use Rattle.records.specs.declared.Event.{Event}
 use Rattle.records.specs.Event.{eventBytes}
-use Rattle.records.specs.Codes.{EV-REL, noSlot}
+use Rattle.records.specs.Codes.{EV-REL}
 use Rattle.assembly.specs.Transition.{freshDriver}
 use Rattle.device.specs.declared.Device.{Device}
+use Rattle.device.specs.State.{freshDevice}
+use Rattle.hotplug.specs.State.{afterAdd}
+use Rattle.registers.specs.Write.{withClientRev}
 use Rattle.delivery.specs.World.{World, Call, write, add, remove, packet, step, call}
 use Rattle.delivery.specs.Log.{Item, gap, whole, logOf, received, sent, endsWithNothingToRead}
 use Rattle.delivery.specs.Premises.{IsFresh, AllBelong}
@@ -24,18 +27,9 @@ small = record { pages = 1; «record_size» = 64; «entry_size» = 256 }
 abbrev pub mouse : List ℕ
 mouse = setU32 (replicate 256 0) 40 5
 
+-- It was added to a fresh device, and CLIENT_REV written.
 abbrev pub offDevice : Device
-offDevice = record {
-  on = false;
-  interrupts = false;
-  isr = false;
-  lost = false;
-  «client_rev_written» = true;
-  «client_rev» = 2;
-  «write_index» = 0;
-  «current_slot» = noSlot;
-  taken = 16;
-}
+offDevice = withClientRev 2 (afterAdd 4 0 freshDevice)
 
 -- The event area holds bytes of before.
 abbrev pub before : World

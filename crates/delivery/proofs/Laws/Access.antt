@@ -56,8 +56,7 @@ module _ (geometry : Geometry) (world : World) {waiting : List Item} (h : Invari
   pub read-kept : Kept geometry world waiting (read offset width) (call geometry world (read offset width))
   unfolding call
   read-kept =
-      quiet-kept (record { sends-nothing = λ refused number. refl; same-flag = λ refused number. refl; no-step = λ number. refl }) refl refl read-not-ten
-      (record { called = h .called; on = h .on; packet-size = h .packet-size; is-driver = h .is-driver; read-inside = h .read-inside; same-write = h .same-write; ahead = h .ahead })
+      quiet-kept (record { sends-nothing = λ refused number. refl; same-flag = λ refused number. refl; no-step = λ number. refl }) refl refl read-not-ten h
 
 -- ---- writes while on
 

@@ -70,15 +70,7 @@ module _ (geometry : Geometry) (world : World) {waiting : List Item} (h : Invari
   refused-kept : (number : ℕ) → number ≢ 0 → number ≢ 7 → number ≢ 10 → Kept geometry world waiting (packet slot events) (after number (world .device) (world .area))
   refused-kept number none room ten = record {
     still = waiting;
-    invariant = record {
-      called = h .called;
-      on = h .on;
-      packet-size = h .packet-size;
-      is-driver = h .is-driver;
-      read-inside = h .read-inside;
-      same-write = h .same-write;
-      ahead = h .ahead;
-    };
+    invariant = h;
     log = rw (ne-eqb number 0 none) (sym (append-nil waiting));
     flag = rw (ne-eqb number 0 none, ne-eqb number 7 room);
     dry = λ z. absurd (false≢true z);

@@ -78,10 +78,6 @@ module _ (geometry : Geometry) (world : World) {waiting : List Item} (h : Invari
       rw (h .on)
       (never 10 _ ((λ t e. omega arith), ((λ t e. omega arith), ((λ t e. false≢true (sym low ∙ t)), ((λ t e. omega arith), (λ e. omega arith))))))
 
-  -- a refusal changes nothing
-  same : Invariant geometry (after 0 (world .device) (world .area) (world .page) .world) waiting
-  same = record { called = h .called; on = h .on; packet-size = h .packet-size; is-driver = h .is-driver; read-inside = h .read-inside; same-write = h .same-write; ahead = h .ahead }
-
   -- ---- the calls
 
   add-quiet : (entry : List ℕ) → Quiet (add slot entry)
@@ -109,7 +105,7 @@ module _ (geometry : Geometry) (world : World) {waiting : List Item} (h : Invari
       let records : addRecords (world .device) slot ≡ devRecord DEV-CONF slot ∷ [] = rw (h .on) in
       elim (ℕ-discrete (addAnswer geometry (world .device) (world .area) (world .page) slot entry) 0) [
         | yes e ↦ rw (e, records) (quiet-kept (add-quiet entry) refl refl (λ z. omega arith) (added entry e))
-        | no n ↦ rw (ne-eqb (addAnswer geometry (world .device) (world .area) (world .page) slot entry) 0 n) (quiet-kept (add-quiet entry) refl refl (add-not-ten entry) same)
+        | no n ↦ rw (ne-eqb (addAnswer geometry (world .device) (world .area) (world .page) slot entry) 0 n) (quiet-kept (add-quiet entry) refl refl (add-not-ten entry) h)
       ]
 
   removed : removeAnswer geometry (world .device) (world .area) (world .page) slot ≡ 0
@@ -132,5 +128,5 @@ module _ (geometry : Geometry) (world : World) {waiting : List Item} (h : Invari
       let records : removeRecords (world .device) slot ≡ devRecord DEV-RESET slot ∷ [] = rw (h .on) in
       elim (ℕ-discrete (removeAnswer geometry (world .device) (world .area) (world .page) slot) 0) [
         | yes e ↦ rw (e, records) (quiet-kept remove-quiet refl refl (λ z. omega arith) (removed e))
-        | no n ↦ rw (ne-eqb (removeAnswer geometry (world .device) (world .area) (world .page) slot) 0 n) (quiet-kept remove-quiet refl refl remove-not-ten same)
+        | no n ↦ rw (ne-eqb (removeAnswer geometry (world .device) (world .area) (world .page) slot) 0 n) (quiet-kept remove-quiet refl refl remove-not-ten h)
       ]

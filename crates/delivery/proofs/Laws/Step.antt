@@ -74,15 +74,7 @@ module _ (geometry : Geometry) (world : World) {waiting : List Item} (h : Invari
       → Kept geometry world waiting step (after world (tells (told.Refused 11) (world .collector .driver)) (world .area) (world .collector .packet))
   dry-kept e = record {
     still = waiting;
-    invariant = record {
-      called = h .called;
-      on = h .on;
-      packet-size = h .packet-size;
-      is-driver = h .is-driver;
-      read-inside = h .read-inside;
-      same-write = h .same-write;
-      ahead = h .ahead;
-    };
+    invariant = h;
     log = sym (append-nil waiting);
     flag = refl;
     dry = λ z. dry-waits e;

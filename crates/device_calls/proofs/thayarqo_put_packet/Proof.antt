@@ -23,7 +23,7 @@ use types.Run.{look, look-raw, init, store-raw, forget, stop, hop, fld, from, lo
 use types.Part.{agg, whole, sub, look-in}
 use types.SemTy.{Body}
 use sound.WpLaws.{FmC, fmOf, WpFn-mono}
-use denote.RattleType.{RattleType, owns}
+use denote.RattleType.{owns}
 use denote.Laws.{Is, shows}
 use denote.Memory.{mem}
 use denote.Plain.{uint-vals, uint-tells, uint-makes}
@@ -44,6 +44,7 @@ use denote.Triple.Walked.{says, Stays, stay-ref, stay-dropped, gave-slice, walkO
 use denote.Exit.{yes}
 use Rattle.packets.specs.Rule.{packetOf}
 use Rattle.device.specs.declared.Device.{Device}
+use Rattle.device.proofs.Laws.Cell.{R, val}
 use Rattle.device.proofs.Device as DeviceT
 use Rattle.device.proofs.Device.Laws as DeviceL
 use Rattle.device.specs.declared.Outcome.{Outcome}
@@ -61,16 +62,9 @@ use Rattle.device_calls.proofs.thayarqo_put_packet as self
 use Rattle.device_calls.proofs.thayarqo_put_packet.Statement as stated
 use Rattle.device_calls.proofs.thayarqo_put_packet.Code as code
 
-abbrev R : RattleType
-R = DeviceT.the-row
-
 -- what is had at exit: of a `&mut` device the borrow; of a `&mut` slice, which is given up, what says its last list; of the rest nothing
 abbrev stayed : Stays (self.ended .signature .params) (self.ended .kept)
 stayed = (stay-ref (0 ∷ []) tt (plain (λ _. R)), (stay-dropped (plain (λ _. GeometryT.the-row)) yes, (gave-slice (1 ∷ []) tt (plain (λ _. u8)), (stay-dropped (shrSliceOf (2 ∷ []) tt (plain (λ _. u8))) yes, (stay-dropped (plain (λ _. u32)) yes, (stay-dropped (shrSliceOf (3 ∷ []) tt (plain (λ _. u8))) yes, tt))))))
-
--- the machine value of a record
-abbrev val : Device → Val
-val = LL.val DeviceT.the-type DeviceL.the-laws
 
 -- the contract that the proof cites
 abbrev Rule : {M : Type 1} (𝓤 : URA M) (H : Heap 𝓤) (A : Atoms 𝓤) (mem : Memory → SProp 𝓤) (run : Routine → Fun 𝓤) → Contract 𝓤

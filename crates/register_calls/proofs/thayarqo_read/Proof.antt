@@ -20,7 +20,7 @@ use contract.Lifetimes.{AllOutlive}
 use types.Kit.{Given, Item, ‵, raw, some, later, _⊛_, ⋆, _$_, _∵_, !, qed, by, move, keep, drop, use1, use3, split, join, pick, fsplit, fsplit3, fjoin, suffices, frame, await, done}
 use types.Run.{look, look-raw, init, forget, stop, hop, from, load, of-opd, and-then, no-more, assigns, land, returns, enter, alloc1, alloc0, params1, pass1, pass0, free1, free0}
 use sound.WpLaws.{FmC, fmOf, WpFn-mono}
-use denote.RattleType.{RattleType, owns}
+use denote.RattleType.{owns}
 use denote.Laws.{Is, shows}
 use denote.Memory.{mem}
 use denote.Plain.{uint-vals, uint-tells}
@@ -41,6 +41,7 @@ use denote.Triple.Walked.{says, Stays, stay-dropped, walkOf, goes-dropped, Walks
 use denote.Exit.{yes}
 use Rattle.registers.specs.Read.{readOf}
 use Rattle.device.specs.declared.Device.{Device}
+use Rattle.device.proofs.Laws.Cell.{R, val}
 use Rattle.device.proofs.Device as DeviceT
 use Rattle.device.proofs.Device.Laws as DeviceL
 use Rattle.registers.specs.declared.Value.{Value}
@@ -58,16 +59,9 @@ use Rattle.register_calls.proofs.thayarqo_read as self
 use Rattle.register_calls.proofs.thayarqo_read.Statement as stated
 use Rattle.register_calls.proofs.thayarqo_read.Code as code
 
-abbrev R : RattleType
-R = DeviceT.the-row
-
 -- what is had at exit: of a `&mut` device the borrow; of a `&mut` slice, which is given up, what says its last list; of the rest nothing
 abbrev stayed : Stays (self.ended .signature .params) (self.ended .kept)
 stayed = (stay-dropped (shrRefTo (0 ∷ []) tt (plain (λ _. R))) yes, (stay-dropped (plain (λ _. GeometryT.the-row)) yes, (stay-dropped (shrSliceOf (1 ∷ []) tt (plain (λ _. u8))) yes, (stay-dropped (shrSliceOf (2 ∷ []) tt (plain (λ _. u8))) yes, (stay-dropped (plain (λ _. u64)) yes, (stay-dropped (plain (λ _. u32)) yes, tt))))))
-
--- the machine value of a record
-abbrev val : Device → Val
-val = LL.val DeviceT.the-type DeviceL.the-laws
 
 -- the contract that the proof cites
 abbrev Rule : {M : Type 1} (𝓤 : URA M) (H : Heap 𝓤) (A : Atoms 𝓤) (mem : Memory → SProp 𝓤) (run : Routine → Fun 𝓤) → Contract 𝓤
