@@ -1,5 +1,5 @@
 -- What is known of an allowed geometry, in the form that arithmetic can use.
-use Prim.Native.Nat.{ℕ, _+_, _-_, _*_, _/_, _%_, _^_, _≤_, _<_}
+use Prim.Native.Nat.{ℕ, _+_, _-_, _*_, _/_, _^_, _≤_, _<_}
 use mathlib.Core.Path.{_≡_, refl, sym, subst}
 use mathlib.Core.Bool.{Bool, true, false, _&&_, _||_, false≢true}
 use native.Mathlib.Omega.{arith}
@@ -57,7 +57,6 @@ pub record Sizes (geometry : Geometry) : Type 0 where
   pub ring-fills : geometry .«record_size» * (ringLength geometry + 1) ≡ areaLength geometry
   pub entry-low : 68 ≤ geometry .«entry_size»
   pub entry-high : geometry .«entry_size» ≤ 256
-  pub entry-fours : geometry .«entry_size» % 4 ≡ 0
   pub record-size : isRecordSize (geometry .«record_size») ≡ true
 
 pub sizes : (geometry : Geometry) → allowed geometry ≡ true → Sizes geometry
@@ -83,6 +82,5 @@ sizes geometry h =
       ring-fills = shape .4;
       entry-low = leb-true 68 _ (d .0);
       entry-high = leb-true _ 256 (e .0);
-      entry-fours = eqb-true _ 0 (e .1);
       record-size = c .0;
     }

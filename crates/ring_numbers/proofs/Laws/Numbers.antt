@@ -1,5 +1,4 @@
 -- An event that is written as numbers comes back.
-use Prim.Native.Nat.{ℕ}
 use mathlib.Core.Path.{_≡_, refl}
 use Rattle.kbdif_events.specs.declared.RingEvent.{RingEvent}
 use Rattle.kbdif_events.specs.declared.RingEvent.the-variants.{Motion, Key, Pos, TouchDown, TouchUp, TouchMotion, TouchSyn, TouchShape, TouchOrient, Unknown}
