@@ -10,7 +10,7 @@ use Rattle.records.specs.Codes.{EV-REL}
 use Rattle.records.specs.Ring.{withReadPointer, withWritePointer}
 use Rattle.device.specs.declared.Device.{Device}
 use Rattle.device.specs.State.{freshDevice}
-use Rattle.hotplug.specs.State.{afterAdd}
+use Rattle.hotplug_add.specs.Add.{afterAdd}
 use Rattle.packets.specs.Rule.{afterPacket}
 use Rattle.registers.specs.Write.{withClientRev}
 use Rattle.switch_on.specs.SwitchOn.{switchedOn}

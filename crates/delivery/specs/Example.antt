@@ -13,7 +13,7 @@ use Rattle.records.specs.Codes.{EV-REL}
 use Rattle.assembly.specs.Transition.{freshDriver}
 use Rattle.device.specs.declared.Device.{Device}
 use Rattle.device.specs.State.{freshDevice}
-use Rattle.hotplug.specs.State.{afterAdd}
+use Rattle.hotplug_add.specs.Add.{afterAdd}
 use Rattle.registers.specs.Write.{withClientRev}
 use Rattle.delivery.specs.World.{World, Call, write, add, remove, packet, step, call}
 use Rattle.delivery.specs.Log.{Item, gap, whole, logOf, received, sent, endsWithNothingToRead}

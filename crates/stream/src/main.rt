@@ -69,7 +69,7 @@ fn plug(device: Device, area: &mut [u8], page: &mut [u8], slot: u32, masks: [u32
     words::write_u32(&mut entry, 44, masks[1]);
     words::write_u32(&mut entry, 48, masks[2]);
     words::write_u32(&mut entry, 64, masks[3]);
-    let out = hotplug::add_rule(device, sizes(), area, page, slot, &entry);
+    let out = hotplug_add::add_rule(device, sizes(), area, page, slot, &entry);
     expect_done(b"add", out.answer);
     out.device
 }

@@ -22,8 +22,8 @@ use Rattle.device.specs.State.{clientRevRule, currentRule, isDevice}
 use Rattle.device.specs.Call.{isSized as sizedCall, isCall}
 use Rattle.packets.specs.Packet.{allOffered}
 use Rattle.packets.specs.Rule.{packetAnswer, packetOf}
-use Rattle.hotplug.specs.Add.{addAnswer, addOf}
-use Rattle.hotplug.specs.Remove.{removeAnswer, removeOf}
+use Rattle.hotplug_add.specs.Add.{addAnswer, addOf}
+use Rattle.hotplug_remove.specs.Remove.{removeAnswer, removeOf}
 use Rattle.access.specs.Access.{accessAnswer}
 use Rattle.access.specs.Place.{placeIn, placeOf}
 use Rattle.switch_on.specs.SwitchOn.{takenFrom, switchOn}

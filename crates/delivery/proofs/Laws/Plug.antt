@@ -21,11 +21,13 @@ use Rattle.assembly.specs.Collect.{Collector}
 use Rattle.device.specs.declared.Device.{Device}
 use Rattle.device.specs.State.{isDevice}
 use Rattle.device.proofs.Laws.Call.{call as known}
-use Rattle.hotplug.specs.State.{afterAdd, afterRemove}
-use Rattle.hotplug.specs.Add.{addRecords, addAnswer, addOf}
-use Rattle.hotplug.specs.Remove.{removeRecords, removeAnswer, removeOf}
-use Rattle.hotplug.proofs.Laws.Accepted.{Accepted, add-accepted, remove-accepted}
-use Rattle.hotplug.proofs.Laws.Rules.{add-keeps, remove-keeps}
+use Rattle.hotplug_record.proofs.Laws.Accepted.{Accepted}
+use Rattle.hotplug_add.specs.Add.{addRecords, addAnswer, addOf, afterAdd}
+use Rattle.hotplug_add.proofs.Laws.Accepted.{add-accepted}
+use Rattle.hotplug_add.proofs.Laws.Rules.{add-keeps}
+use Rattle.hotplug_remove.specs.Remove.{afterRemove, removeRecords, removeAnswer, removeOf}
+use Rattle.hotplug_remove.proofs.Laws.Accepted.{remove-accepted}
+use Rattle.hotplug_remove.proofs.Laws.Rules.{remove-keeps}
 use Rattle.entries.specs.Entry.{withEntry, withoutEntry}
 use Rattle.words.proofs.Laws.Overwrite.{overwrite-length}
 use Rattle.delivery.specs.World.{World, Result, numbered, add, remove, call}
