@@ -3,7 +3,7 @@ use Prim.Native.Nat.{ℕ, _*_}
 use mathlib.Core.Bool.{cond}
 use mathlib.Core.List.{List}
 use lib.Dec.{ltb}
-use Rattle.words.specs.Words.{overwrite}
+use Rattle.copying.specs.Copying.{overwrite}
 use Rattle.geometry.specs.declared.Geometry.{Geometry}
 use Rattle.records.specs.declared.Event.{Event}
 use Rattle.records.specs.Event.{eventBytes, eventsFrom}

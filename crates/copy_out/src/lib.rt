@@ -8,7 +8,7 @@ use reading::reading_refusal;
 ghost use mathlib.Core.Path.{_≡_};
 ghost use Prim.Native.Nat.{_+_, _*_, _%_, _≤_, _<_, min};
 ghost use lib.ListN.{length};
-ghost use Rattle.words.specs.Words.{overwrite};
+ghost use Rattle.copying.specs.Copying.{overwrite};
 ghost use Rattle.geometry.specs.Geometry.{ringOf};
 ghost use Rattle.records.specs.Ring.{Holds, readPointer, unreadCount};
 ghost use Rattle.copy_out.specs.CopyOut.{bytesFrom, refusedCopy, copyOf};
@@ -39,7 +39,7 @@ fn copy_run(ring: Ring, area: &[u8], first: u32, count: usize, out: &mut [u8])
     let mut at: usize = 0;
     let mut left = count;
     while 0 < left {
-        words::copy_eight(out, at, &area[place..place + 8]);
+        copying::copy_eight(out, at, &area[place..place + 8]);
         place += ring.record_size as usize;
         at += 8;
         left -= 1;

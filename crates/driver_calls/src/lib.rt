@@ -130,6 +130,6 @@ pub extern "C" fn thayarqo_lookup(geometry: Geometry, page: &[u8], slot: u32, ou
     }
     let mut answer: u8 = DONE;
     let entry = entries::lookup(geometry, page, slot, &mut answer);
-    words::copy(out, 0, entry);
+    copying::copy(out, 0, entry);
     answer
 }

@@ -4,7 +4,8 @@ use mathlib.Core.Bool.{Bool}
 use mathlib.Core.List.{List}
 use lib.ListN.{take, drop, replicate}
 use Rattle.bits.specs.Bits.{bit}
-use Rattle.words.specs.Words.{u32At, overwrite}
+use Rattle.copying.specs.Copying.{overwrite}
+use Rattle.words.specs.Words.{u32At}
 use Rattle.geometry.specs.declared.Geometry.{Geometry}
 use Rattle.geometry.specs.Geometry.{entryPlace}
 

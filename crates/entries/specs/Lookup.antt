@@ -7,7 +7,7 @@ use lib.Dec.{ltb, eqb}
 use lib.ListN.{length}
 use Rattle.answers.specs.Answers.{done, invalid, badSlot}
 use Rattle.answers.specs.Refusals.{firstRefusal}
-use Rattle.words.specs.Words.{Agree}
+use Rattle.copying.specs.Copying.{Agree}
 use Rattle.geometry.specs.declared.Geometry.{Geometry}
 use Rattle.geometry.specs.Geometry.{allowed, entryPageLength, slotCount, entryPlace}
 use Rattle.entries.specs.Entry.{knownLength, isPresent, entryAt}

@@ -27,7 +27,7 @@ pub fn write_entry(geometry: Geometry, page: &mut [u8], slot: u32, entry: &[u8])
 {
     let start = geometry::entry_place(geometry, slot);
     let end = start + geometry.entry_size as usize;
-    words::copy(&mut page[start..end], 0, entry);
+    copying::copy(&mut page[start..end], 0, entry);
 }
 
 // Zeroes an entry's own stretch of the page.
@@ -37,7 +37,7 @@ pub fn clear_entry(geometry: Geometry, page: &mut [u8], slot: u32)
 {
     let start = geometry::entry_place(geometry, slot);
     let end = start + geometry.entry_size as usize;
-    words::clear(&mut page[start..end]);
+    copying::clear(&mut page[start..end]);
 }
 
 pub fn is_present(entry: &[u8]) -> bool

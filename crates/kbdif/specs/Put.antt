@@ -6,7 +6,7 @@ use lib.Dec.{ltb, eqb}
 use lib.ListN.{length}
 use Rattle.answers.specs.Answers.{done, invalid, malformed, badIndex, noRoom}
 use Rattle.answers.specs.Refusals.{firstRefusal}
-use Rattle.words.specs.Words.{overwrite}
+use Rattle.copying.specs.Copying.{overwrite}
 use Rattle.kbdif_events.specs.Event.{eventLength}
 use Rattle.kbdif_decode.specs.Decode.{decoded, mayBePut}
 use Rattle.kbdif_page.specs.Page.{pageLength, ringLength, inConsOf, withInProd, nextIndex, distance, eventPlace, isContactLimit}

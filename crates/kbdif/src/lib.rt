@@ -64,7 +64,7 @@ fn store(place: &mut [u8], event: &[u8])
 {
     let mut at: usize = 0;
     while at < EVENT_LENGTH {
-        words::copy_eight(place, at, &event[at..at + 8]);
+        copying::copy_eight(place, at, &event[at..at + 8]);
         at += 8;
     }
 }

@@ -9,7 +9,7 @@ use lib.Dec.{ltb}
 use borrow.Author.Tests.{ne-eqb, le-ltb}
 use Rattle.answers.specs.Answers.{done, invalid, malformed, badIndex, noRoom}
 use Rattle.answers.specs.Refusals.{firstRefusal}
-use Rattle.words.specs.Words.{overwrite}
+use Rattle.copying.specs.Copying.{overwrite}
 use Rattle.kbdif_decode.specs.Decode.{eventAt, eventRefusals, decoded, mayBePut}
 use Rattle.kbdif_page.specs.Page.{ringLength, inConsOf, withInProd, nextIndex, distance, eventPlace, eventBytesAt}
 use Rattle.kbdif_page.proofs.Laws.Page.{put-length, put-moved, put-cons, put-same, put-other}

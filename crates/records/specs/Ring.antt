@@ -3,7 +3,8 @@ use Prim.Native.Nat.{ℕ, _+_, _-_, _*_, _%_, _^_, _≤_, _<_}
 use mathlib.Core.Bool.{Bool}
 use mathlib.Core.List.{List}
 use lib.Dec.{leb}
-use Rattle.words.specs.Words.{u32At, setU32, overwrite}
+use Rattle.copying.specs.Copying.{overwrite}
+use Rattle.words.specs.Words.{u32At, setU32}
 use Rattle.geometry.specs.declared.Ring.{Ring}
 use Rattle.geometry.specs.Geometry.{recordPlace}
 use Rattle.records.specs.declared.Event.{Event}

@@ -5,7 +5,7 @@ use mathlib.Core.Bool.{cond}
 use mathlib.Core.List.{List, [], _∷_, _++_}
 use lib.Dec.{ltb}
 use lib.ListN.{length}
-use Rattle.words.specs.Words.{overwrite}
+use Rattle.copying.specs.Copying.{overwrite}
 
 -- The last `count` decimal digits of a number, the most significant first.
 unfoldable pub digits : ℕ → ℕ → List ℕ

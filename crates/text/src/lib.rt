@@ -2,7 +2,7 @@
 ghost use mathlib.Core.Path.{_≡_};
 ghost use Prim.Native.Nat.{_+_, _≤_, _<_};
 ghost use lib.ListN.{length};
-ghost use Rattle.words.specs.Words.{overwrite};
+ghost use Rattle.copying.specs.Copying.{overwrite};
 ghost use Rattle.text.specs.Text.{digits, digitCount, decimal, Written};
 
 // Puts the text into the buffer from `at` on, and answers where it ends.
@@ -10,7 +10,7 @@ pub fn write_text(out: &mut [u8], at: usize, text: &[u8]) -> usize
     requires { ⌜ at + length (now text) ≤ length (now out) ⌝ }
     ensures { λ r. ⌜ Written (now (out .entry)) at (now (text .entry)) (now (out .exit)) r ⌝ }
 {
-    words::copy(out, at, text);
+    copying::copy(out, at, text);
     at + text.len()
 }
 

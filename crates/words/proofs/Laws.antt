@@ -1,4 +1,1 @@
-pub mod Overwrite
-pub mod Remains
 pub mod Word
-pub mod Part

@@ -1,9 +1,8 @@
 -- Bytes and little-endian words. A buffer is the list of its bytes (01: all numbers in pages are little-endian).
-use Prim.Native.Nat.{ℕ, _+_, _*_, _/_, _%_, _≤_, _<_}
-use mathlib.Core.Path.{_≡_}
-use mathlib.Core.List.{List, [], _∷_, _++_}
-use lib.ListN.{length, getD, take, drop}
-use Rattle.words.specs.declared.Four.{Four}
+use Prim.Native.Nat.{ℕ, _+_, _*_, _/_, _%_, _<_}
+use mathlib.Core.List.{List, [], _∷_}
+use lib.ListN.{getD}
+use Rattle.copying.specs.Copying.{overwrite}
 
 -- The bytes of a 16-bit and of a 32-bit word, lowest first.
 abbrev pub u16Bytes : ℕ → List ℕ
@@ -23,23 +22,12 @@ u32At bytes at =
     + getD bytes (at + 2) 0 * 65536
     + getD bytes (at + 3) 0 * 16777216
 
--- The buffer with another stretch in the place of its bytes from `at` on. The rest stays.
-unfoldable pub overwrite : List ℕ → ℕ → List ℕ → List ℕ
-overwrite bytes at stretch = take at bytes ++ (stretch ++ drop (length stretch) (drop at bytes))
-
 -- The buffer with a word written at a byte.
 abbrev pub setU16 : List ℕ → ℕ → ℕ → List ℕ
 setU16 bytes at value = overwrite bytes at (u16Bytes value)
 
 abbrev pub setU32 : List ℕ → ℕ → ℕ → List ℕ
 setU32 bytes at value = overwrite bytes at (u32Bytes value)
-
-abbrev pub fourBytes : Four → List ℕ
-fourBytes four = four .first ∷ four .second ∷ four .third ∷ four .fourth ∷ []
-
--- Two buffers hold the same `count` bytes from `at` on.
-abbrev pub Agree : List ℕ → List ℕ → ℕ → ℕ → Type 0
-Agree left right at count = (i : ℕ) → at ≤ i → i < at + count → getD left i 0 ≡ getD right i 0
 
 -- Every number is one that a byte can hold.
 abbrev pub IsBytes : List ℕ → Type 0

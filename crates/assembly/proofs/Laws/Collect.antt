@@ -7,8 +7,8 @@ use native.Mathlib.Omega.{arith}
 use native.Mathlib.Numerals.{add-one}
 use lib.ListN.{length}
 use borrow.Author.Tests.{le-leb, lt-leb, le-ltb, lt-ltb}
-use Rattle.words.specs.Words.{overwrite}
-use Rattle.words.proofs.Laws.Overwrite.{overwrite-length}
+use Rattle.copying.specs.Copying.{overwrite}
+use Rattle.copying.proofs.Laws.Overwrite.{overwrite-length}
 use Rattle.geometry.specs.declared.Geometry.{Geometry}
 use Rattle.records.specs.declared.Event.{Event}
 use Rattle.records.specs.Event.{EventFits, eventBytes, eventsFrom}

@@ -6,7 +6,7 @@ use native.Mathlib.Omega.{arith}
 use native.Mathlib.Nat.{mod-mod}
 use native.Mathlib.Numerals.{add-one}
 use lib.ListN.{length, length-append}
-use Rattle.words.proofs.Laws.Remains.{Remains, begin, done, stretch-stored}
+use Rattle.copying.proofs.Laws.Remains.{Remains, begin, done, stretch-stored}
 use Rattle.geometry.specs.declared.Ring.{Ring}
 use Rattle.records.specs.declared.Event.{Event}
 use Rattle.records.specs.Ring.{nextIndex}

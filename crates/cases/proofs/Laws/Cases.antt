@@ -1,7 +1,7 @@
 -- The cases, by computation.
 use mathlib.Core.Path.{refl}
 use Rattle.answers.specs.Refusals.{firstRefusal}
-use Rattle.words.specs.Words.{overwrite}
+use Rattle.copying.specs.Copying.{overwrite}
 use Rattle.bits.specs.Bits.{bit}
 use Rattle.geometry.specs.Geometry.{isRecordSize, isEntrySize, allowed}
 use Rattle.records.specs.Event.{eventBytes, eventAt, eventsFrom}

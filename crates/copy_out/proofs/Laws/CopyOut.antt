@@ -6,9 +6,9 @@ use native.Mathlib.Omega.{arith}
 use native.Mathlib.Nat.{mod-eq-of-lt, mod-lt, mod-self, zero-mod, add-mod-right, suc-mod, mul-add, mul-one, zero-add, add-zero, suc-add}
 use lib.ListN.{length, take, drop, length-append, length-drop}
 use lib.Seq.{length-take-le}
-use Rattle.words.specs.Words.{overwrite}
-use Rattle.words.proofs.Laws.Overwrite.{lent-part, overwrite-whole, overwrite-next}
-use Rattle.words.proofs.Laws.Remains.{Remains, begin, done, stretch-stored}
+use Rattle.copying.specs.Copying.{overwrite}
+use Rattle.copying.proofs.Laws.Overwrite.{lent-part, overwrite-whole, overwrite-next}
+use Rattle.copying.proofs.Laws.Remains.{Remains, begin, done, stretch-stored}
 use Rattle.geometry.specs.declared.Ring.{Ring}
 use Rattle.geometry.specs.Geometry.{recordPlace}
 use Rattle.records.specs.Ring.{Holds}

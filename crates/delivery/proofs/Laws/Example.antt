@@ -4,7 +4,8 @@ use mathlib.Core.Path.{refl}
 use mathlib.Core.List.{List, [], _∷_, _++_}
 use native.Mathlib.Omega.{arith}
 use lib.ListN.{replicate}
-use Rattle.words.specs.Words.{overwrite, IsBytes}
+use Rattle.copying.specs.Copying.{overwrite}
+use Rattle.words.specs.Words.{IsBytes}
 use Rattle.answers.specs.Refusals.{firstRefusal}
 use Rattle.geometry.specs.Geometry.{isRecordSize, isEntrySize, allowed}
 use Rattle.bits.specs.Bits.{bit}

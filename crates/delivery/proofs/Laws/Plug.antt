@@ -29,7 +29,7 @@ use Rattle.hotplug_remove.specs.Remove.{afterRemove, removeRecords, removeAnswe
 use Rattle.hotplug_remove.proofs.Laws.Accepted.{remove-accepted}
 use Rattle.hotplug_remove.proofs.Laws.Rules.{remove-keeps}
 use Rattle.entries.specs.Entry.{withEntry, withoutEntry}
-use Rattle.words.proofs.Laws.Overwrite.{overwrite-length}
+use Rattle.copying.proofs.Laws.Overwrite.{overwrite-length}
 use Rattle.delivery.specs.World.{World, Result, numbered, add, remove, call}
 use Rattle.delivery.specs.Log.{Item}
 use Rattle.delivery.proofs.Laws.Numbers.{never}

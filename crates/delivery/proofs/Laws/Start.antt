@@ -8,7 +8,7 @@ use lib.Dec.{eqb}
 use lib.ListN.{length}
 use borrow.Author.Tests.{eqb-true}
 use Rattle.words.specs.Words.{u32Bytes}
-use Rattle.words.proofs.Laws.Overwrite.{overwrite-length, overwrite-before}
+use Rattle.copying.proofs.Laws.Overwrite.{overwrite-length, overwrite-before}
 use Rattle.words.proofs.Laws.Word.{agree-u32, u32-back}
 use Rattle.bits.specs.Bits.{bit}
 use Rattle.geometry.specs.declared.Geometry.{Geometry}

@@ -8,8 +8,8 @@ use native.Mathlib.Decide.{ℕ-discrete}
 use lib.ListN.{length, drop, length-drop}
 use lib.Seq.{length-take-le}
 use borrow.Author.Tests.{eq-eqb, ne-eqb}
-use Rattle.words.specs.Words.{overwrite}
-use Rattle.words.proofs.Laws.Overwrite.{overwrite-whole, overwrite-nothing}
+use Rattle.copying.specs.Copying.{overwrite}
+use Rattle.copying.proofs.Laws.Overwrite.{overwrite-whole, overwrite-nothing}
 use Rattle.answers.specs.Refusals.{firstRefusal}
 use Rattle.geometry.specs.declared.Geometry.{Geometry}
 use Rattle.geometry.specs.Geometry.{entryPlace}

@@ -12,9 +12,11 @@ use lib.ListN.{length, getD, take, replicate, length-replicate, getD-replicate}
 use lib.Seq.{length-take-le, drop-at, take-append-le, getD-take}
 use borrow.Author.Tests.{eq-eqb, lt-ltb}
 use Rattle.bits.specs.Bits.{bit}
-use Rattle.words.specs.Words.{overwrite, u32At}
-use Rattle.words.proofs.Laws.Overwrite.{overwrite-length, overwrite-before, overwrite-after}
-use Rattle.words.proofs.Laws.Word.{agree-u32, agree-stretch}
+use Rattle.copying.specs.Copying.{overwrite}
+use Rattle.words.specs.Words.{u32At}
+use Rattle.copying.proofs.Laws.Overwrite.{overwrite-length, overwrite-before, overwrite-after}
+use Rattle.copying.proofs.Laws.Agree.{agree-stretch}
+use Rattle.words.proofs.Laws.Word.{agree-u32}
 use Rattle.answers.specs.Refusals.{firstRefusal}
 use Rattle.geometry.specs.declared.Geometry.{Geometry}
 use Rattle.geometry.specs.Geometry.{allowed, slotCount, entryPlace}

@@ -7,7 +7,7 @@ use native.Mathlib.Omega.{arith}
 use lib.Dec.{ltb, eqb}
 use lib.ListN.{length, take, drop}
 use borrow.Author.Tests.{eqb-true, ltb-true, not-false}
-use Rattle.words.proofs.Laws.Word.{agree-stretch}
+use Rattle.copying.proofs.Laws.Agree.{agree-stretch}
 use Rattle.answers.specs.Refusals.{firstRefusal}
 use Rattle.answers.proofs.Laws.{none-holds}
 use Rattle.geometry.specs.declared.Geometry.{Geometry}

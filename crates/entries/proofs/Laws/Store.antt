@@ -5,8 +5,8 @@ use mathlib.Core.List.{List, _++_}
 use native.Mathlib.Omega.{arith}
 use lib.ListN.{length, take, drop, replicate, length-drop, length-replicate}
 use lib.Seq.{length-take-le}
-use Rattle.words.specs.Words.{overwrite}
-use Rattle.words.proofs.Laws.Overwrite.{lent-part, overwrite-whole}
+use Rattle.copying.specs.Copying.{overwrite}
+use Rattle.copying.proofs.Laws.Overwrite.{lent-part, overwrite-whole}
 use Rattle.geometry.specs.declared.Geometry.{Geometry}
 use Rattle.geometry.specs.Geometry.{entryPlace}
 use Rattle.entries.specs.Entry.{withEntry, withoutEntry}

@@ -1,4 +1,4 @@
-use Rattle.words.specs.Words.{overwrite}
+use Rattle.copying.specs.Copying.{overwrite}
 use mathlib.Core.Path.{_∙_}
 use borrow.Author.Needs.{needs}
 use Rattle.kbdif_events.proofs.set_all.Statement.{statement}

@@ -9,8 +9,9 @@ use lib.Dec.{leb}
 use lib.ListN.{length, getD, length-take, length-drop}
 use lib.Seq.{ext-getD, getD-take, getD-drop}
 use borrow.Author.Tests.{leb-true}
-use Rattle.words.specs.Words.{overwrite, Agree, u32Bytes}
-use Rattle.words.proofs.Laws.Overwrite.{overwrite-length, overwrite-inside, overwrite-before, overwrite-after}
+use Rattle.copying.specs.Copying.{overwrite, Agree}
+use Rattle.words.specs.Words.{u32Bytes}
+use Rattle.copying.proofs.Laws.Overwrite.{overwrite-length, overwrite-inside, overwrite-before, overwrite-after}
 use Rattle.words.proofs.Laws.Word.{agree-u32, u32-back}
 use Rattle.kbdif_events.specs.Event.{eventLength, between}
 use Rattle.kbdif_page.specs.Page.{pageLength, ringLength, inConsOf, inProdOf, withInCons, withInProd, eventPlace, eventBytesAt, isContactLimit}

@@ -5,8 +5,9 @@ use mathlib.Core.List.{List}
 use native.Mathlib.Omega.{arith}
 use native.Mathlib.Nat.{add-zero}
 use lib.ListN.{length}
-use Rattle.words.specs.Words.{overwrite, Agree, u16At, u32At, u16Bytes, u32Bytes}
-use Rattle.words.proofs.Laws.Overwrite.{overwrite-next, overwrite-whole}
+use Rattle.copying.specs.Copying.{overwrite, Agree}
+use Rattle.words.specs.Words.{u16At, u32At, u16Bytes, u32Bytes}
+use Rattle.copying.proofs.Laws.Overwrite.{overwrite-next, overwrite-whole}
 use Rattle.words.proofs.Laws.Word.{agree-u16, agree-u32, u16-inside, u32-inside, u16-digits, u32-digits}
 use Rattle.records.specs.Event.{EventFits, eventBytes, eventAt}
 use Rattle.records.specs.declared.Event.{Event}

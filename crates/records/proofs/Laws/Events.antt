@@ -5,8 +5,9 @@ use mathlib.Core.List.{List, [], _∷_, _++_}
 use native.Mathlib.Omega.{arith}
 use native.Mathlib.Nat.{add-zero}
 use lib.ListN.{length, getD}
-use Rattle.words.specs.Words.{overwrite, IsBytes}
-use Rattle.words.proofs.Laws.Overwrite.{overwrite-before}
+use Rattle.copying.specs.Copying.{overwrite}
+use Rattle.words.specs.Words.{IsBytes}
+use Rattle.copying.proofs.Laws.Overwrite.{overwrite-before}
 use Rattle.records.specs.Event.{EventFits, AllFit, eventBytes, eventAt, eventsFrom}
 use Rattle.records.specs.declared.Event.{Event}
 use Rattle.records.proofs.Laws.Event.{agree-event, event-back}

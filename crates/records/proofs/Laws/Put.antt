@@ -6,8 +6,9 @@ use mathlib.Core.List.{List, _++_}
 use native.Mathlib.Omega.{arith}
 use native.Mathlib.Decide.{decLt}
 use lib.ListN.{length, take, drop}
-use Rattle.words.specs.Words.{overwrite, Agree, u32Bytes}
-use Rattle.words.proofs.Laws.Overwrite.{lent, overwrite-length, overwrite-before, overwrite-after}
+use Rattle.copying.specs.Copying.{overwrite, Agree}
+use Rattle.words.specs.Words.{u32Bytes}
+use Rattle.copying.proofs.Laws.Overwrite.{lent, overwrite-length, overwrite-before, overwrite-after}
 use Rattle.words.proofs.Laws.Word.{agree-u32, u32-back}
 use Rattle.geometry.specs.declared.Ring.{Ring}
 use Rattle.geometry.specs.Geometry.{recordPlace}

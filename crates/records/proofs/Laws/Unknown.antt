@@ -7,8 +7,9 @@ use native.Mathlib.Nat.{mod-lt, zero-add}
 use native.Mathlib.Decide.{decLt}
 use lib.ListN.{length, getD, take, drop}
 use Rattle.words.specs.Words.{u32Bytes}
-use Rattle.words.proofs.Laws.Overwrite.{overwrite-inside}
-use Rattle.words.proofs.Laws.Word.{agree-u32, agree-stretch}
+use Rattle.copying.proofs.Laws.Overwrite.{overwrite-inside}
+use Rattle.copying.proofs.Laws.Agree.{agree-stretch}
+use Rattle.words.proofs.Laws.Word.{agree-u32}
 use Rattle.geometry.specs.declared.Ring.{Ring}
 use Rattle.geometry.specs.Geometry.{recordPlace}
 use Rattle.records.specs.Ring.{Holds, readPointer, writePointer, withReadPointer}

@@ -8,7 +8,7 @@ use lib.Dec.{eqb}
 use lib.ListN.{length}
 use borrow.Author.Tests.{lt-ltb, eqb-true}
 use Rattle.words.specs.Words.{u32Bytes}
-use Rattle.words.proofs.Laws.Overwrite.{overwrite-length}
+use Rattle.copying.proofs.Laws.Overwrite.{overwrite-length}
 use Rattle.bits.specs.Bits.{bit}
 use Rattle.geometry.specs.declared.Geometry.{Geometry}
 use Rattle.geometry.specs.Geometry.{allowed, ringLength, ringOf}

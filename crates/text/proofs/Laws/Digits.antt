@@ -7,9 +7,9 @@ use native.Mathlib.Omega.{arith}
 use native.Mathlib.Numerals.{add-one}
 use lib.Dec.{ltb}
 use lib.ListN.{length, set, length-append}
-use Rattle.words.specs.Words.{overwrite}
+use Rattle.copying.specs.Copying.{overwrite}
 use Rattle.text.specs.Text.{digits, digitCount, decimal}
-use Rattle.words.proofs.Laws.Remains.{Remains, done, last-stored}
+use Rattle.copying.proofs.Laws.Remains.{Remains, done, last-stored}
 
 pub digits-length : (count value : ℕ) → length (digits count value) ≡ count
 unfolding digits

@@ -4,7 +4,7 @@ use mathlib.Core.Path.{_≡_, _∙_}
 use mathlib.Core.List.{List, _++_}
 use native.Mathlib.Omega.{arith}
 use lib.ListN.{length, length-append}
-use Rattle.words.proofs.Laws.Overwrite.{overwrite-length, overwrite-next}
+use Rattle.copying.proofs.Laws.Overwrite.{overwrite-length, overwrite-next}
 use Rattle.text.specs.Text.{Written}
 
 module _ {before : List ℕ} {at : ℕ} {text middle : List ℕ} {end : ℕ} (first : Written before at text middle end) (fits : at + length text ≤ length before) where

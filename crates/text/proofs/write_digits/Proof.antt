@@ -3,7 +3,7 @@ use native.Mathlib.Omega.{arith}
 use borrow.Author.Needs.{needs}
 use Rattle.text.specs.Text.{digits}
 use Rattle.text.proofs.Laws.Digits.{digits-go-on, digits-end}
-use Rattle.words.proofs.Laws.Remains.{Remains, begin}
+use Rattle.copying.proofs.Laws.Remains.{Remains, begin}
 use Rattle.text.proofs.write_digits.Statement.{statement}
 use Rattle.text.proofs.write_digits.Tie as tie
 

@@ -1,13 +1,13 @@
 -- Laws of words in a buffer, over the offset: what was written is read back, and a word depends on its own bytes alone.
 use Prim.Native.Nat.{ℕ, _+_, _/_, _≤_, _<_, _^_}
-use mathlib.Core.Path.{_≡_, sym, ap, _∙_}
+use mathlib.Core.Path.{_≡_, sym, ap}
 use mathlib.Core.List.{List}
 use native.Mathlib.Omega.{arith}
 use native.Mathlib.Nat.{add-zero, add-assoc, div-div-eq-div-mul}
-use lib.ListN.{length, getD, take, drop, length-drop}
-use lib.Seq.{ext-getD, getD-take, getD-drop, length-take-le}
-use Rattle.words.specs.Words.{overwrite, u16Bytes, u32Bytes, u16At, u32At, setU16, setU32, Agree}
-use Rattle.words.proofs.Laws.Overwrite.{overwrite-inside}
+use lib.ListN.{length, getD}
+use Rattle.copying.specs.Copying.{overwrite, Agree}
+use Rattle.words.specs.Words.{u16Bytes, u32Bytes, u16At, u32At, setU16, setU32}
+use Rattle.copying.proofs.Laws.Overwrite.{overwrite-inside}
 
 -- a number is the word that its bytes make
 pub u16-digits : (v : ℕ) → v < 2 ^ 16 → u16At (u16Bytes v) 0 ≡ v
@@ -36,15 +36,6 @@ module _ (left right : List ℕ) (at : ℕ) where
         same (at + 2) (omega arith) (omega arith),
         same (at + 3) (omega arith) (omega arith),
       )
-
--- a stretch of bytes is its own bytes
-pub agree-stretch : (left right : List ℕ) (at count : ℕ) → Agree left right at count → at + count ≤ length left → at + count ≤ length right
-    → take count (drop at left) ≡ take count (drop at right)
-agree-stretch left right at count same l r =
-    let n : length (take count (drop at left)) ≡ count = length-take-le count (drop at left) (rw length-drop (omega arith)) in
-    let m : length (take count (drop at right)) ≡ count = length-take-le count (drop at right) (rw length-drop (omega arith)) in
-    ext-getD 0 (take count (drop at left)) (take count (drop at right)) (n ∙ sym m)
-    (λ i h. rw (getD-take count (drop at left) i 0 (omega arith), getD-take count (drop at right) i 0 (omega arith), getD-drop, getD-drop) (same (at + i) (omega arith) (omega arith)))
 
 -- ---- a word inside a stretch that was written
 

@@ -1,4 +1,4 @@
-use Rattle.words.proofs.Laws.Overwrite.{lent}
+use Rattle.copying.proofs.Laws.Overwrite.{lent}
 use borrow.Author.Needs.{needs}
 use Rattle.words.proofs.write_u16.Statement.{statement}
 use Rattle.words.proofs.write_u16.Tie as tie

@@ -1,4 +1,4 @@
-use Rattle.words.proofs.Laws.Overwrite.{lent}
+use Rattle.copying.proofs.Laws.Overwrite.{lent}
 use borrow.Author.Needs.{needs}
 use Rattle.words.proofs.write_u32.Statement.{statement}
 use Rattle.words.proofs.write_u32.Tie as tie

@@ -1,6 +1,6 @@
 use Prim.Native.Nat.{_*_}
 use mathlib.Core.Path.{sym}
-use Rattle.words.proofs.Laws.Overwrite.{lent-part}
+use Rattle.copying.proofs.Laws.Overwrite.{lent-part}
 use Rattle.records.proofs.Laws.Event.{event-length}
 use Rattle.assembly.proofs.Laws.Collect.{join-ignored, join-full, join-free}
 use borrow.Author.Needs.{needs}

@@ -1,7 +1,7 @@
-use Rattle.words.proofs.Laws.Part.{four-bytes}
+use Rattle.copying.proofs.Laws.Part.{four-bytes}
 use borrow.Author.Needs.{needs}
-use Rattle.words.proofs.four_at.Statement.{statement}
-use Rattle.words.proofs.four_at.Tie as tie
+use Rattle.copying.proofs.four_at.Statement.{statement}
+use Rattle.copying.proofs.four_at.Tie as tie
 
 shared-slice-read-first : tie.Need-shared-slice-read-first
 shared-slice-read-first c = search needs

@@ -1,11 +1,11 @@
 use Prim.Native.Nat.{ℕ, _+_}
 use mathlib.Core.Path.{ap, _∙_}
 use mathlib.Core.List.{List}
-use Rattle.words.specs.Words.{overwrite, fourBytes}
-use Rattle.words.proofs.Laws.Part.{eight-written}
+use Rattle.copying.specs.Copying.{overwrite, fourBytes}
+use Rattle.copying.proofs.Laws.Part.{eight-written}
 use borrow.Author.Needs.{needs}
-use Rattle.words.proofs.copy_eight.Statement.{statement}
-use Rattle.words.proofs.copy_eight.Tie as tie
+use Rattle.copying.proofs.copy_eight.Statement.{statement}
+use Rattle.copying.proofs.copy_eight.Tie as tie
 
 four-at-requires : tie.Need-four-at-requires
 four-at-requires c κs = search needs

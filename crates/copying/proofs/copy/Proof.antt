@@ -2,9 +2,9 @@ use Prim.Native.Nat.{_+_, _-_, _≤_}
 use native.Mathlib.Omega.{arith}
 use lib.ListN.{length, drop}
 use borrow.Author.Needs.{needs}
-use Rattle.words.proofs.Laws.Remains.{Remains, copy-begins, copy-goes-on, copy-ends}
-use Rattle.words.proofs.copy.Statement.{statement}
-use Rattle.words.proofs.copy.Tie as tie
+use Rattle.copying.proofs.Laws.Remains.{Remains, copy-begins, copy-goes-on, copy-ends}
+use Rattle.copying.proofs.copy.Statement.{statement}
+use Rattle.copying.proofs.copy.Tie as tie
 
 abbrev Inv-loop : tie.InvT-loop
 Inv-loop bytes₀ at source i₀ bytes i = (i ≤ length source) × Remains bytes₀ at source bytes (at + i) (drop i source)

@@ -1,8 +1,8 @@
-use Rattle.words.specs.Words.{fourBytes}
-use Rattle.words.proofs.Laws.Overwrite.{all-stored}
+use Rattle.copying.specs.Copying.{fourBytes}
+use Rattle.copying.proofs.Laws.Overwrite.{all-stored}
 use borrow.Author.Needs.{needs}
-use Rattle.words.proofs.fill_four.Statement.{statement}
-use Rattle.words.proofs.fill_four.Tie as tie
+use Rattle.copying.proofs.fill_four.Statement.{statement}
+use Rattle.copying.proofs.fill_four.Tie as tie
 
 slice-write-stretch : tie.Need-slice-write-stretch
 slice-write-stretch c = search needs

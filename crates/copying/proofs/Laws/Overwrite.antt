@@ -7,7 +7,7 @@ use native.Mathlib.Nat.{add-assoc}
 use native.Mathlib.Numerals.{add-one}
 use lib.ListN.{length, getD, take, drop, set, length-append, length-take, length-drop, take-append-drop, drop-of-length-le, List·getD-append}
 use lib.Seq.{sets, sets-eq, set-split, getD-append-add, getD-take, getD-drop, length-take-le, take-append-le, take-take, take-at, drop-at, drop-drop}
-use Rattle.words.specs.Words.{overwrite, Agree}
+use Rattle.copying.specs.Copying.{overwrite, Agree}
 
 -- every byte of a stretch stored, one after the other
 pub all-stored : (values bytes : List ℕ) → length bytes ≡ length values → sets bytes 0 values ≡ values

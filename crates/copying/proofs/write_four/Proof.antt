@@ -1,7 +1,7 @@
-use Rattle.words.proofs.Laws.Overwrite.{lent}
+use Rattle.copying.proofs.Laws.Overwrite.{lent}
 use borrow.Author.Needs.{needs}
-use Rattle.words.proofs.write_four.Statement.{statement}
-use Rattle.words.proofs.write_four.Tie as tie
+use Rattle.copying.proofs.write_four.Statement.{statement}
+use Rattle.copying.proofs.write_four.Tie as tie
 
 add-fill-four : tie.Need-add-fill-four
 add-fill-four c = search needs

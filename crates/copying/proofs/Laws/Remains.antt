@@ -7,8 +7,8 @@ use native.Mathlib.Nat.{add-assoc, add-zero}
 use native.Mathlib.Numerals.{add-one}
 use lib.ListN.{length, getD, drop, set, length-set, drop-of-length-le}
 use lib.Seq.{drop-cons}
-use Rattle.words.specs.Words.{overwrite}
-use Rattle.words.proofs.Laws.Overwrite.{overwrite-length, overwrite-nothing, overwrite-one, overwrite-next, overwrite-previous}
+use Rattle.copying.specs.Copying.{overwrite}
+use Rattle.copying.proofs.Laws.Overwrite.{overwrite-length, overwrite-nothing, overwrite-one, overwrite-next, overwrite-previous}
 
 -- Once `rest` is put at `place`, the buffer is what it was at the start, with the whole stretch put at `at`.
 pub record Remains (start : List ℕ) (at : ℕ) (whole bytes : List ℕ) (place : ℕ) (rest : List ℕ) : Type 0 where

@@ -6,9 +6,9 @@ use native.Mathlib.Omega.{arith}
 use native.Mathlib.Numerals.{add-one}
 use lib.ListN.{length, getD, take, drop, length-drop, take-append-drop}
 use lib.Seq.{drop-cons, take-all}
-use Rattle.words.specs.declared.Four.{Four}
-use Rattle.words.specs.Words.{overwrite, fourBytes}
-use Rattle.words.proofs.Laws.Overwrite.{overwrite-next}
+use Rattle.copying.specs.declared.Four.{Four}
+use Rattle.copying.specs.Copying.{overwrite, fourBytes}
+use Rattle.copying.proofs.Laws.Overwrite.{overwrite-next}
 
 module _ (bytes : List ℕ) where
   next : (place following : ℕ) → following ≡ place + 1 → place < length bytes → drop place bytes ≡ getD bytes place 0 ∷ drop following bytes

@@ -1,0 +1,4 @@
+pub mod Overwrite
+pub mod Remains
+pub mod Agree
+pub mod Part
