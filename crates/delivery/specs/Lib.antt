@@ -2,4 +2,3 @@ pub mod World
 pub mod Log
 pub mod Premises
 pub mod Demand3
-pub mod Example

@@ -30,10 +30,10 @@ use Rattle.access.specs.Place.{placeIn, placeOf}
 use Rattle.switch_on.specs.SwitchOn.{takenFrom, switchOn}
 use Rattle.registers.specs.Write.{controlOf, writeOf}
 use Rattle.geometry.specs.declared.Geometry.{Geometry}
 use Rattle.delivery.specs.World.{World, Call, add, remove, packet, step, call}
 use Rattle.delivery.specs.Log.{after}
 use Rattle.delivery.specs.Premises.{AllBelong}
-use Rattle.delivery.specs.Example.{small, mouse, start, motions, later, calls, Example}
+use Rattle.delivery_example.specs.Example.{small, mouse, start, motions, later, calls, Example}
 
 is-packet : (count value : ℕ) → IsBytes (motions count value)
 unfolding eventBytes
