@@ -1,6 +1,6 @@
 -- The event that 40 bytes hold, and when they are badly formed (01, "kbdif ring and nodes").
-use Prim.Native.Nat.{ℕ, _+_, _*_}
-use mathlib.Core.Bool.{Bool, true, false, not, _&&_, cond}
+use Prim.Native.Nat.{ℕ, _+_}
+use mathlib.Core.Bool.{Bool, false, not, _&&_, cond}
 use mathlib.Core.List.{List, [], _∷_}
 use lib.Dec.{leb, ltb, eqb}
 use lib.IntN.{ℤ}
@@ -15,11 +15,8 @@ use Rattle.kbdif_decode.specs.declared.Decoded.the-variants.{Event, Refu
 use Rattle.kbdif_events.specs.declared.RingEvent.{RingEvent}
 use Rattle.kbdif_events.specs.declared.RingEvent.the-variants.{Motion, Key, Pos, TouchDown, TouchUp, TouchMotion, TouchSyn, TouchShape, TouchOrient, Unknown}
 use Rattle.kbdif_events.specs.Types.{XENKBD-TYPE-MOTION, XENKBD-TYPE-KEY, XENKBD-TYPE-POS, XENKBD-TYPE-MTOUCH, XENKBD-MT-EV-DOWN, XENKBD-MT-EV-UP, XENKBD-MT-EV-MOTION, XENKBD-MT-EV-SYN, XENKBD-MT-EV-SHAPE, XENKBD-MT-EV-ORIENT}
-use Rattle.kbdif_events.specs.Event.{eventLength, between, layoutOf, contactOf, known}
-
--- Eight bytes as one number.
-abbrev pub u64At : List ℕ → ℕ → ℕ
-u64At bytes at = u32At bytes at + u32At bytes (at + 4) * 4294967296
+use Rattle.kbdif_events.specs.Event.{layoutOf, contactOf, known}
+use Rattle.kbdif_reserved.specs.Reserved.{zeroOutside}
 
 -- The signed number that begins at a byte.
 abbrev pub i32At : List ℕ → ℕ → ℤ
@@ -69,14 +66,6 @@ extent head start end = record { head = head; start = start; end = end }
 unfoldable pub extentOf : RingEvent → Extent
 extentOf event =
     extent (length (layoutOf event .head)) (layoutOf event .start) (layoutOf event .start + length (layoutOf event .fields))
-
-unfoldable pub allZero : List ℕ → Bool
-allZero [] = true
-allZero (byte ∷ rest) = eqb byte 0 && allZero rest
-
--- The bytes between the head and the fields, and after the fields.
-abbrev pub zeroOutside : List ℕ → ℕ → ℕ → ℕ → Bool
-zeroOutside bytes head start end = allZero (between bytes head start) && allZero (between bytes end eventLength)
 
 -- The reserved bytes of an event.
 unfoldable pub reservedIsZero : List ℕ → RingEvent → Bool

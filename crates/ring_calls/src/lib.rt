@@ -31,7 +31,8 @@ ghost use lib.ListN.{length, getD};
 ghost use Rattle.words.specs.Words.{u32At};
 ghost use Rattle.kbdif_events.specs.Types.{XENKBD-TYPE-MTOUCH};
 ghost use Rattle.kbdif_events.specs.Event.{eventLength};
-ghost use Rattle.kbdif_decode.specs.Decode.{i32At, i16At, zeroOutside, decoded};
+ghost use Rattle.kbdif_reserved.specs.Reserved.{zeroOutside};
+ghost use Rattle.kbdif_decode.specs.Decode.{i32At, i16At, decoded};
 ghost use Rattle.kbdif.specs.Put.{putOf};
 ghost use Rattle.kbdif.specs.Take.{takeOf};
 ghost use Rattle.ring_numbers.specs.Numbers.{placeNumbers, keyNumbers, shapeNumbers, orientNumbers, foundOf};
@@ -107,7 +108,7 @@ fn pointer_at(bytes: &[u8], kind: u8) -> FoundNumbers
         r ≡ checkedNumbers (zeroOutside event 1 4 16) (placeNumbers kind 0 0 (i32At event 4) (i32At event 8) (i32At event 12))) ⌝ }
 {
     checked(
-        kbdif_decode::pointer_is_clear(bytes),
+        kbdif_reserved::pointer_is_clear(bytes),
         place_numbers(
             kind,
             0,
@@ -129,7 +130,7 @@ fn key_at(bytes: &[u8]) -> FoundNumbers
         return ring_numbers::refused(MALFORMED);
     }
     checked(
-        kbdif_decode::key_is_clear(bytes),
+        kbdif_reserved::key_is_clear(bytes),
         key_numbers(pressed == 1, words::read_u32(bytes, 4)),
     )
 }
@@ -144,7 +145,7 @@ fn placed_touch_at(bytes: &[u8], subtype: u8, contact_limit: u32) -> FoundNumber
         return ring_numbers::refused(MALFORMED);
     }
     checked(
-        kbdif_decode::touch_is_clear(bytes),
+        kbdif_reserved::touch_is_clear(bytes),
         place_numbers(
             XENKBD_TYPE_MTOUCH,
             subtype,
@@ -166,7 +167,7 @@ fn bare_touch_at(bytes: &[u8], subtype: u8, contact_limit: u32) -> FoundNumbers
         return ring_numbers::refused(MALFORMED);
     }
     checked(
-        kbdif_decode::bare_touch_is_clear(bytes),
+        kbdif_reserved::bare_touch_is_clear(bytes),
         place_numbers(XENKBD_TYPE_MTOUCH, subtype, contact, 0, 0, 0),
     )
 }
@@ -181,7 +182,7 @@ fn shape_at(bytes: &[u8], contact_limit: u32) -> FoundNumbers
         return ring_numbers::refused(MALFORMED);
     }
     checked(
-        kbdif_decode::touch_is_clear(bytes),
+        kbdif_reserved::touch_is_clear(bytes),
         shape_numbers(
             contact,
             words::read_u32(bytes, 8),
@@ -200,7 +201,7 @@ fn orientation_at(bytes: &[u8], contact_limit: u32) -> FoundNumbers
         return ring_numbers::refused(MALFORMED);
     }
     checked(
-        kbdif_decode::orientation_is_clear(bytes),
+        kbdif_reserved::orientation_is_clear(bytes),
         orient_numbers(contact, signed::i16_from_bits(words::read_u16(bytes, 8))),
     )
 }

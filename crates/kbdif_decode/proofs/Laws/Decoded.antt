@@ -1,17 +1,16 @@
 -- Encode after decode gives the bytes back.
-use Prim.Native.Nat.{ℕ, _+_, _-_, _≤_}
+use Prim.Native.Nat.{ℕ, _+_, _≤_}
 use mathlib.Core.Path.{_≡_, refl, sym, ap, _∙_, subst}
-use mathlib.Core.Bool.{Bool, true, false, cond, false≢true, and-eq-true-iff}
+use mathlib.Core.Bool.{Bool, true, false, cond, false≢true}
 use mathlib.Core.List.{List, [], _∷_, _++_}
 use native.Mathlib.Omega.{arith}
 use native.Mathlib.Decide.{ℕ-discrete}
 use lib.Dec.{eqb}
-use lib.ListN.{length, getD, drop, length-take, length-drop}
-use lib.Seq.{take-all}
+use lib.ListN.{length, getD, drop}
 use mir.Syntax.{w16, w32}
 use mir.Val.{Fits}
 use mir.Facts.{ofZ-toZ}
-use borrow.Author.Tests.{eq-eqb, ne-eqb, eqb-true, ltb-false, not-false}
+use borrow.Author.Tests.{eq-eqb, ne-eqb, ltb-false, not-false}
 use Rattle.answers.specs.Answers.{malformed}
 use Rattle.answers.specs.Refusals.{firstRefusal}
 use Rattle.answers.proofs.Laws.{none-holds}
@@ -20,11 +19,12 @@ use Rattle.kbdif_decode.specs.declared.Decoded.the-variants.{Event}
 use Rattle.kbdif_events.specs.declared.RingEvent.{RingEvent}
 use Rattle.kbdif_events.specs.declared.RingEvent.the-variants.{Unknown}
 use Rattle.kbdif_events.specs.Types.{XENKBD-TYPE-KEY, XENKBD-TYPE-MTOUCH}
-use Rattle.kbdif_events.specs.Event.{eventLength, between, zeros, layoutOf, eventBytes, i32Bytes, i16Bytes, known}
-use Rattle.kbdif_decode.specs.Decode.{i32At, i16At, lookup, touchAt, eventAt, extentOf, allZero, reservedIsZero, pressedAboveOne, eventRefusals, decoded}
+use Rattle.kbdif_events.specs.Event.{eventLength, between, layoutOf, eventBytes, i32Bytes, i16Bytes, known}
+use Rattle.kbdif_decode.specs.Decode.{i32At, i16At, lookup, touchAt, eventAt, extentOf, reservedIsZero, pressedAboveOne, eventRefusals, decoded}
 use Rattle.kbdif_decode.proofs.Laws.Answer.{answered-event}
 use Rattle.kbdif_decode.proofs.Laws.Layout.{ordered}
-use Rattle.kbdif_decode.proofs.Laws.Pieces.{pieces, joined, one-byte, two-bytes, three-bytes, u16-bytes, u32-bytes}
+use Rattle.kbdif_reserved.proofs.Laws.Pieces.{pieces, joined, one-byte, two-bytes, three-bytes, u16-bytes, u32-bytes}
+use Rattle.kbdif_reserved.proofs.Laws.Reserved.{zeros-outside}
 
 -- what holds of every entry that a number can pick, and of the last thing, holds of what is picked
 Entries : (RingEvent → Type 0) → ℕ → List (ℕ × RingEvent) → Type 0
@@ -41,18 +41,6 @@ picked P number ((key, event) ∷ rest) other entries last = elim (ℕ-discrete 
 
 -- ---- bytes whose reserved ones are zero are those of an event that has their head and fields
 
-zeros-are : (bytes : List ℕ) → allZero bytes ≡ true → bytes ≡ zeros (length bytes)
-unfolding allZero
-zeros-are [] h = refl
-zeros-are (byte ∷ rest) h =
-    let both = and-eq-true-iff (eqb byte 0) (allZero rest) .0 h in
-    λ i. eqb-true byte 0 (both .0) i ∷ zeros-are rest (both .1) i
-
-zeros-between : (bytes : List ℕ) (from until : ℕ) → until ≤ length bytes → allZero (between bytes from until) ≡ true → between bytes from until ≡ zeros (until - from)
-zeros-between bytes from until h zero =
-    let n : length (between bytes from until) ≡ until - from = simp (length-take, length-drop) (omega arith) in
-    zeros-are (between bytes from until) zero ∙ ap zeros n
-
 laid-out : (bytes : List ℕ) (event : RingEvent) → length bytes ≡ eventLength → reservedIsZero bytes event ≡ true
     → layoutOf event .head ≡ between bytes 0 (extentOf event .head) → layoutOf event .fields ≡ between bytes (extentOf event .start) (extentOf event .end)
     → eventBytes event ≡ bytes
@@ -60,11 +48,8 @@ unfolding eventBytes reservedIsZero extentOf
 laid-out bytes event size reserved head fields =
     let o = ordered event in
     let e : ℕ = extentOf event .end in
-    let zero = and-eq-true-iff (allZero (between bytes (extentOf event .head) (extentOf event .start))) (allZero (between bytes e eventLength)) .0 reserved in
-    let gap = zeros-between bytes (extentOf event .head) (extentOf event .start) (omega (arith, o)) (zero .0) in
-    let n : length (drop e bytes) ≤ eventLength - e = simp length-drop (omega arith) in
-    let rest : drop e bytes ≡ zeros (eventLength - e) = sym (take-all (eventLength - e) (drop e bytes) n) ∙ zeros-between bytes e eventLength (omega arith) (zero .1) in
-    let same : eventBytes event ≡ between bytes 0 (extentOf event .head) ++ (between bytes (extentOf event .head) (extentOf event .start) ++ (between bytes (extentOf event .start) e ++ drop e bytes)) = λ i. head i ++ (sym gap i ++ (fields i ++ sym rest i)) in
+    let zero = zeros-outside bytes (extentOf event .head) (extentOf event .start) e size (omega (arith, o)) reserved in
+    let same : eventBytes event ≡ between bytes 0 (extentOf event .head) ++ (between bytes (extentOf event .head) (extentOf event .start) ++ (between bytes (extentOf event .start) e ++ drop e bytes)) = λ i. head i ++ (sym (zero .0) i ++ (fields i ++ sym (zero .1) i)) in
     same ∙ pieces bytes (extentOf event .head) (extentOf event .start) e (o .head-before) (o .start-before)
 
 -- an event that is read, if known, is laid out as the bytes are

@@ -16,7 +16,8 @@ use Rattle.kbdif_decode.specs.declared.Decoded.the-variants.{Event}
 use Rattle.kbdif_events.specs.declared.RingEvent.{RingEvent}
 use Rattle.kbdif_events.specs.declared.RingEvent.the-variants.{Motion, Key, Pos, TouchDown, TouchUp, TouchMotion, TouchSyn, TouchShape, TouchOrient, Unknown}
 use Rattle.kbdif_events.specs.Event.{eventLength, layoutOf, eventBytes, i32Bytes, i16Bytes, contactOf, EventFits}
-use Rattle.kbdif_decode.specs.Decode.{lookup, touchAt, eventAt, extentOf, allZero, reservedIsZero, pressedAboveOne, decoded}
+use Rattle.kbdif_reserved.specs.Reserved.{allZero}
+use Rattle.kbdif_decode.specs.Decode.{lookup, touchAt, eventAt, extentOf, reservedIsZero, pressedAboveOne, decoded}
 
 pub event-length : (event : RingEvent) → length (eventBytes event) ≡ eventLength
 unfolding eventBytes layoutOf

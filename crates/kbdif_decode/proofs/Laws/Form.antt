@@ -15,9 +15,10 @@ use Rattle.kbdif_events.specs.declared.RingEvent.the-variants.{Motion, Key, Pos
 use Rattle.words.specs.Words.{u32At}
 use Rattle.kbdif_events.specs.Types.{XENKBD-TYPE-MOTION, XENKBD-TYPE-KEY, XENKBD-TYPE-POS, XENKBD-TYPE-MTOUCH, XENKBD-MT-EV-DOWN, XENKBD-MT-EV-UP, XENKBD-MT-EV-MOTION, XENKBD-MT-EV-SYN, XENKBD-MT-EV-SHAPE, XENKBD-MT-EV-ORIENT}
 use Rattle.kbdif_events.specs.Event.{layoutOf, contactOf, known}
+use Rattle.kbdif_reserved.specs.Reserved.{allZero, zeroOutside}
 use Rattle.kbdif_decode.specs.declared.Decoded.{Decoded}
 use Rattle.kbdif_decode.specs.declared.Decoded.the-variants.{Event, Refused}
-use Rattle.kbdif_decode.specs.Decode.{i32At, i16At, lookup, touchAt, eventAt, extentOf, allZero, zeroOutside, reservedIsZero, pressedAboveOne, answered, decoded, mayBePut}
+use Rattle.kbdif_decode.specs.Decode.{i32At, i16At, lookup, touchAt, eventAt, extentOf, reservedIsZero, pressedAboveOne, answered, decoded, mayBePut}
 
 -- an event, or 9
 abbrev pub judged : Bool → RingEvent → Decoded

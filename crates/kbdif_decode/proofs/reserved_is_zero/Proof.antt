@@ -1,5 +1,6 @@
 use Rattle.kbdif_events.specs.Event.{layoutOf}
-use Rattle.kbdif_decode.specs.Decode.{reservedIsZero, extentOf, allZero}
+use Rattle.kbdif_reserved.specs.Reserved.{allZero}
+use Rattle.kbdif_decode.specs.Decode.{reservedIsZero, extentOf}
 use borrow.Author.Needs.{needs}
 use Rattle.kbdif_decode.proofs.reserved_is_zero.Statement.{statement}
 use Rattle.kbdif_decode.proofs.reserved_is_zero.Tie as tie

@@ -1,5 +1,6 @@
 use Rattle.ring_numbers.specs.Numbers.{numbersOf, foundOf}
-use Rattle.kbdif_decode.specs.Decode.{i32At, lookup, eventAt, zeroOutside}
+use Rattle.kbdif_reserved.specs.Reserved.{zeroOutside}
+use Rattle.kbdif_decode.specs.Decode.{i32At, lookup, eventAt}
 use Rattle.words.specs.Words.{u32At}
 use borrow.Author.Tests.{ne-eqb}
 use lib.ListN.{getD}

@@ -1,5 +1,5 @@
 use borrow.Author.Tests.{le-leb, lt-leb}
-use Rattle.kbdif_decode.specs.Decode.{zeroOutside}
+use Rattle.kbdif_reserved.specs.Reserved.{zeroOutside}
 use mathlib.Core.Bool.{and-true, and-false}
 use mathlib.Core.Path.{_∙_}
 use borrow.Author.Needs.{needs}

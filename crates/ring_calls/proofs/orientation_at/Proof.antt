@@ -2,7 +2,7 @@ use mir.Syntax.{w16}
 use Rattle.signed.proofs.Laws.{stored}
 use native.Mathlib.Omega.{arith}
 use borrow.Author.Tests.{lt-ltb, le-ltb}
-use Rattle.kbdif_decode.specs.Decode.{zeroOutside}
+use Rattle.kbdif_reserved.specs.Reserved.{zeroOutside}
 use mathlib.Core.Bool.{and-true, and-false}
 use mathlib.Core.Path.{_∙_}
 use borrow.Author.Needs.{needs}

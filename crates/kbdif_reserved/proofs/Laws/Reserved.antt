@@ -1,18 +1,19 @@
 -- Laws of stretches of zero bytes, tested by the numbers that their bytes make.
 use Prim.Native.Nat.{ℕ, zero, suc, _+_, _-_, _*_, _/_, _≤_}
 use mathlib.Core.Path.{_≡_, refl, sym, ap, _∙_}
-use mathlib.Core.Bool.{Bool, true, false, _&&_, and-assoc}
+use mathlib.Core.Bool.{Bool, true, false, _&&_, and-assoc, and-eq-true-iff}
 use mathlib.Core.List.{List, [], _∷_, _++_}
 use native.Mathlib.Omega.{arith}
 use native.Mathlib.Numerals.{add-one}
 use native.Mathlib.Decide.{ℕ-discrete}
 use lib.Dec.{eqb}
-use lib.ListN.{length, getD, take, drop}
-use lib.Seq.{drop-cons, drop-drop, take-add}
-use borrow.Author.Tests.{eq-eqb, ne-eqb}
+use lib.ListN.{length, getD, take, drop, length-take, length-drop}
+use lib.Seq.{drop-cons, take-all}
+use borrow.Author.Tests.{eq-eqb, ne-eqb, eqb-true}
 use Rattle.words.specs.Words.{u16At, u32At, IsBytes}
-use Rattle.kbdif_events.specs.Event.{eventLength, between}
-use Rattle.kbdif_decode.specs.Decode.{u64At, allZero, zeroOutside}
+use Rattle.kbdif_events.specs.Event.{eventLength, between, zeros}
+use Rattle.kbdif_reserved.specs.Reserved.{u64At, allZero, zeroOutside}
+use Rattle.kbdif_reserved.proofs.Laws.Pieces.{joined}
 
 -- two tests that hold together
 same-test : (a b c d : ℕ) → (a ≡ b → c ≡ d) → (c ≡ d → a ≡ b) → eqb a b ≡ eqb c d
@@ -51,15 +52,31 @@ unfolding allZero
 zero-append [] second = refl
 zero-append (byte ∷ rest) second = rw (zero-append rest second) (sym (and-assoc (eqb byte 0) (allZero rest) (allZero second)))
 
-pub zero-between : (bytes : List ℕ) (from middle until : ℕ) → from ≤ middle → middle ≤ until
+zero-between : (bytes : List ℕ) (from middle until : ℕ) → from ≤ middle → middle ≤ until
     → allZero (between bytes from until) ≡ (allZero (between bytes from middle) && allZero (between bytes middle until))
 zero-between bytes from middle until low high =
-    let sum : until - from ≡ middle - from + (until - middle) = omega arith in
-    let there : from + (middle - from) ≡ middle = omega arith in
-    ap (λ (n : ℕ). allZero (take n (drop from bytes))) sum
-    ∙ ap allZero (take-add (middle - from) (until - middle) (drop from bytes))
-    ∙ zero-append (take (middle - from) (drop from bytes)) (take (until - middle) (drop (middle - from) (drop from bytes)))
-    ∙ ap (λ (rest : List ℕ). allZero (between bytes from middle) && allZero (take (until - middle) rest)) (drop-drop (middle - from) from bytes ∙ ap (λ (n : ℕ). drop n bytes) there)
+    ap allZero (sym (joined bytes from middle until low high)) ∙ zero-append (between bytes from middle) (between bytes middle until)
+
+-- ---- what is tested to be zero is zeros
+
+zeros-are : (bytes : List ℕ) → allZero bytes ≡ true → bytes ≡ zeros (length bytes)
+unfolding allZero
+zeros-are [] h = refl
+zeros-are (byte ∷ rest) h =
+    let both = and-eq-true-iff (eqb byte 0) (allZero rest) .0 h in
+    λ i. eqb-true byte 0 (both .0) i ∷ zeros-are rest (both .1) i
+
+zeros-between : (bytes : List ℕ) (from until : ℕ) → until ≤ length bytes → allZero (between bytes from until) ≡ true → between bytes from until ≡ zeros (until - from)
+zeros-between bytes from until h clear =
+    let n : length (between bytes from until) ≡ until - from = simp (length-take, length-drop) (omega arith) in
+    zeros-are (between bytes from until) clear ∙ ap zeros n
+
+pub zeros-outside : (bytes : List ℕ) (head start end : ℕ) → length bytes ≡ eventLength → start ≤ eventLength → zeroOutside bytes head start end ≡ true
+    → (between bytes head start ≡ zeros (start - head)) × (drop end bytes ≡ zeros (eventLength - end))
+zeros-outside bytes head start end size inside clear =
+    let both = and-eq-true-iff (allZero (between bytes head start)) (allZero (between bytes end eventLength)) .0 clear in
+    let n : length (drop end bytes) ≤ eventLength - end = simp length-drop (omega arith) in
+    (zeros-between bytes head start (omega arith) (both .0), sym (take-all (eventLength - end) (drop end bytes) n) ∙ zeros-between bytes end eventLength (omega arith) (both .1))
 
 -- ---- the stretches that events leave reserved
 

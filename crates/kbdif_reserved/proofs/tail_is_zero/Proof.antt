@@ -1,8 +1,8 @@
 use borrow.Author.Tests.{eq-eqb, ne-eqb}
-use Rattle.kbdif_decode.proofs.Laws.Reserved.{tail}
+use Rattle.kbdif_reserved.proofs.Laws.Reserved.{tail}
 use borrow.Author.Needs.{needs}
-use Rattle.kbdif_decode.proofs.tail_is_zero.Statement.{statement}
-use Rattle.kbdif_decode.proofs.tail_is_zero.Tie as tie
+use Rattle.kbdif_reserved.proofs.tail_is_zero.Statement.{statement}
+use Rattle.kbdif_reserved.proofs.tail_is_zero.Tie as tie
 
 eight-at-requires : tie.Need-eight-at-requires
 eight-at-requires c κs = search needs

@@ -1,8 +1,8 @@
 use borrow.Author.Tests.{eq-eqb, ne-eqb}
-use Rattle.kbdif_decode.proofs.Laws.Reserved.{after-orientation, not-after}
+use Rattle.kbdif_reserved.proofs.Laws.Reserved.{after-orientation, not-after}
 use borrow.Author.Needs.{needs}
-use Rattle.kbdif_decode.proofs.orientation_is_clear.Statement.{statement}
-use Rattle.kbdif_decode.proofs.orientation_is_clear.Tie as tie
+use Rattle.kbdif_reserved.proofs.orientation_is_clear.Statement.{statement}
+use Rattle.kbdif_reserved.proofs.orientation_is_clear.Tie as tie
 
 read-u16-requires : tie.Need-read-u16-requires
 read-u16-requires c κs = search needs

@@ -1,8 +1,8 @@
 use borrow.Author.Tests.{eq-eqb, ne-eqb}
-use Rattle.kbdif_decode.proofs.Laws.Reserved.{after-pressed, after-keycode}
+use Rattle.kbdif_reserved.proofs.Laws.Reserved.{after-pressed, after-keycode}
 use borrow.Author.Needs.{needs}
-use Rattle.kbdif_decode.proofs.key_is_clear.Statement.{statement}
-use Rattle.kbdif_decode.proofs.key_is_clear.Tie as tie
+use Rattle.kbdif_reserved.proofs.key_is_clear.Statement.{statement}
+use Rattle.kbdif_reserved.proofs.key_is_clear.Tie as tie
 
 read-u16-requires : tie.Need-read-u16-requires
 read-u16-requires c κs = search needs

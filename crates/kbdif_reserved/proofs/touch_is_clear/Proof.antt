@@ -1,8 +1,8 @@
 use borrow.Author.Tests.{eq-eqb, ne-eqb}
-use Rattle.kbdif_decode.proofs.Laws.Reserved.{after-contact}
+use Rattle.kbdif_reserved.proofs.Laws.Reserved.{after-contact}
 use borrow.Author.Needs.{needs}
-use Rattle.kbdif_decode.proofs.touch_is_clear.Statement.{statement}
-use Rattle.kbdif_decode.proofs.touch_is_clear.Tie as tie
+use Rattle.kbdif_reserved.proofs.touch_is_clear.Statement.{statement}
+use Rattle.kbdif_reserved.proofs.touch_is_clear.Tie as tie
 
 eight-at-requires : tie.Need-eight-at-requires
 eight-at-requires c κs = search needs

@@ -1,8 +1,8 @@
 use borrow.Author.Tests.{eq-eqb, ne-eqb}
-use Rattle.kbdif_decode.proofs.Laws.Reserved.{after-head}
+use Rattle.kbdif_reserved.proofs.Laws.Reserved.{after-head}
 use borrow.Author.Needs.{needs}
-use Rattle.kbdif_decode.proofs.pointer_is_clear.Statement.{statement}
-use Rattle.kbdif_decode.proofs.pointer_is_clear.Tie as tie
+use Rattle.kbdif_reserved.proofs.pointer_is_clear.Statement.{statement}
+use Rattle.kbdif_reserved.proofs.pointer_is_clear.Tie as tie
 
 read-u32-requires : tie.Need-read-u32-requires
 read-u32-requires c κs = search needs
