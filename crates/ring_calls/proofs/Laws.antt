@@ -1,3 +1,2 @@
 pub mod Encode
-pub mod Found
 pub mod Taken

@@ -10,9 +10,8 @@ use Rattle.kbdif_events.specs.Event.{eventLength, eventBytes, known}
 use Rattle.kbdif_decode.specs.Decode.{eventAt, eventRefusals, answered}
 use Rattle.kbdif_decode.specs.declared.Decoded.{Decoded}
 use Rattle.kbdif_page.specs.Page.{isContactLimit}
-use Rattle.ring_numbers.specs.Numbers.{noNumbers, eventOf, found}
+use Rattle.ring_numbers.specs.Numbers.{eventOf}
 use Rattle.ring_numbers.specs.declared.RingNumbers.{RingNumbers}
-use Rattle.ring_numbers.specs.declared.FoundNumbers.{FoundNumbers}
 
 -- Encode: 1 for an output of another length, 9 for what is unknown.
 abbrev pub encodeRefusals : List ℕ → RingNumbers → List (Bool × ℕ)
@@ -37,7 +36,3 @@ decodeRefusals bytes contactLimit =
 
 abbrev pub decodedOf : List ℕ → ℕ → Decoded
 decodedOf bytes contactLimit = answered (firstRefusal (decodeRefusals bytes contactLimit)) (eventAt bytes)
-
--- An event of a take that was tested, or 9.
-abbrev pub checkedNumbers : Bool → RingNumbers → FoundNumbers
-checkedNumbers fine numbers = cond fine (found done numbers) (found malformed noNumbers)

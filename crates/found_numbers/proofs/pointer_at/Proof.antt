@@ -2,8 +2,8 @@ use mir.Syntax.{w32}
 use Rattle.signed.proofs.Laws.{stored}
 use mathlib.Core.Path.{_∙_}
 use borrow.Author.Needs.{needs}
-use Rattle.ring_calls.proofs.pointer_at.Statement.{statement}
-use Rattle.ring_calls.proofs.pointer_at.Tie as tie
+use Rattle.found_numbers.proofs.pointer_at.Statement.{statement}
+use Rattle.found_numbers.proofs.pointer_at.Tie as tie
 
 pointer-is-clear-requires : tie.Need-pointer-is-clear-requires
 pointer-is-clear-requires c κs = search needs

@@ -3,8 +3,8 @@ use Rattle.kbdif_reserved.specs.Reserved.{zeroOutside}
 use mathlib.Core.Bool.{and-true, and-false}
 use mathlib.Core.Path.{_∙_}
 use borrow.Author.Needs.{needs}
-use Rattle.ring_calls.proofs.key_at.Statement.{statement}
-use Rattle.ring_calls.proofs.key_at.Tie as tie
+use Rattle.found_numbers.proofs.key_at.Statement.{statement}
+use Rattle.found_numbers.proofs.key_at.Tie as tie
 
 shared-slice-read-pressed : tie.Need-shared-slice-read-pressed
 shared-slice-read-pressed c = search needs

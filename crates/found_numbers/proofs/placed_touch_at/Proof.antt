@@ -6,8 +6,8 @@ use Rattle.kbdif_reserved.specs.Reserved.{zeroOutside}
 use mathlib.Core.Bool.{and-true, and-false}
 use mathlib.Core.Path.{_∙_}
 use borrow.Author.Needs.{needs}
-use Rattle.ring_calls.proofs.placed_touch_at.Statement.{statement}
-use Rattle.ring_calls.proofs.placed_touch_at.Tie as tie
+use Rattle.found_numbers.proofs.placed_touch_at.Statement.{statement}
+use Rattle.found_numbers.proofs.placed_touch_at.Tie as tie
 
 shared-slice-read-contact : tie.Need-shared-slice-read-contact
 shared-slice-read-contact c = search needs

@@ -6,7 +6,7 @@ use Rattle.kbdif_events.specs.declared.RingEvent.{RingEvent}
 use Rattle.kbdif_decode.specs.declared.Decoded.{Decoded}
 use Rattle.kbdif_decode.proofs.Laws.Form.{judged}
 use Rattle.ring_numbers.specs.Numbers.{numbersOf, found, foundOf}
-use Rattle.ring_calls.specs.Calls.{checkedNumbers}
+use Rattle.found_numbers.specs.Found.{checkedNumbers}
 use Rattle.ring_numbers.specs.declared.RingNumbers.{RingNumbers}
 use Rattle.ring_numbers.specs.declared.FoundNumbers.{FoundNumbers}
 

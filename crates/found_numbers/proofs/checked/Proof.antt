@@ -1,8 +1,8 @@
 use mathlib.Core.Path.{_∙_}
 use borrow.Author.Tests.{not-true, not-false}
 use borrow.Author.Needs.{needs}
-use Rattle.ring_calls.proofs.checked.Statement.{statement}
-use Rattle.ring_calls.proofs.checked.Tie as tie
+use Rattle.found_numbers.proofs.checked.Statement.{statement}
+use Rattle.found_numbers.proofs.checked.Tie as tie
 
 refused-requires : tie.Need-refused-requires
 refused-requires c κs = search needs

@@ -7,12 +7,12 @@ use lib.ListN.{getD}
 use lib.Dec.{leb, eqb}
 use mathlib.Core.Bool.{_&&_}
 use mathlib.Core.Path.{refl, sym, ap, _∙_}
-use Rattle.ring_calls.proofs.Laws.Found.{told}
+use Rattle.found_numbers.proofs.Laws.Found.{told}
 use Rattle.kbdif_events.specs.declared.RingEvent.the-variants.{Motion, Key, Pos}
 use Rattle.kbdif_decode.proofs.Laws.Form.{motion-judged, key-judged, position-judged, unknown-found}
 use borrow.Author.Needs.{needs}
-use Rattle.ring_calls.proofs.found_at.Statement.{statement}
-use Rattle.ring_calls.proofs.found_at.Tie as tie
+use Rattle.found_numbers.proofs.found_at.Statement.{statement}
+use Rattle.found_numbers.proofs.found_at.Tie as tie
 
 shared-slice-read-kind : tie.Need-shared-slice-read-kind
 shared-slice-read-kind c = search needs

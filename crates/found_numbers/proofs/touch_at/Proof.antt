@@ -7,12 +7,12 @@ use lib.ListN.{getD}
 use lib.Dec.{ltb}
 use mathlib.Core.Bool.{_&&_}
 use mathlib.Core.Path.{refl, sym, ap, _∙_}
-use Rattle.ring_calls.proofs.Laws.Found.{told}
+use Rattle.found_numbers.proofs.Laws.Found.{told}
 use Rattle.kbdif_events.specs.declared.RingEvent.the-variants.{TouchDown, TouchUp, TouchMotion, TouchSyn, TouchShape, TouchOrient}
 use Rattle.kbdif_decode.proofs.Laws.Form.{down-judged, up-judged, touch-motion-judged, syn-judged, shape-judged, orientation-judged, unknown-touch-found}
 use borrow.Author.Needs.{needs}
-use Rattle.ring_calls.proofs.touch_at.Statement.{statement}
-use Rattle.ring_calls.proofs.touch_at.Tie as tie
+use Rattle.found_numbers.proofs.touch_at.Statement.{statement}
+use Rattle.found_numbers.proofs.touch_at.Tie as tie
 
 shared-slice-read-subtype : tie.Need-shared-slice-read-subtype
 shared-slice-read-subtype c = search needs
