@@ -1,3 +1,4 @@
+pub mod Callee
 pub mod Frame
 pub mod Lent
 pub mod Parameters

@@ -33,8 +33,9 @@ use denote.Triple.Call.{calls-at}
 use denote.Triple.Clauses.{lasts, Lasts}
 use denote.Triple.Table.{entered, cited}
 use denote.Triple.Walked.{says, ends-at}
-use Rattle.walks.proofs.Laws.Frame.{allocs-all, passes-all, frees-all}
-use Rattle.walks.proofs.Laws.Lent.{positions, tokens, lent, given-back, unsaid, last-list, asks, answers}
+use Rattle.walks.proofs.Laws.Frame.{positions, in-local, allocs-all, passes-all, frees-all}
+use Rattle.walks.proofs.Laws.Lent.{lent, given-back}
+use Rattle.walks.proofs.Laws.Callee.{tokens, asks, unsaid, last-list, answers}
 use Rattle.walks.proofs.Laws.Parameters.{Parameter, changed, by-value, number, changed-bytes, read-bytes, slots, stays, valuesOf, typed-all, Walk, meets}
 use Rattle.hotplug_add.specs.Add.{addOf}
 use Rattle.device.specs.declared.Device.{Device}
@@ -86,14 +87,14 @@ module _ {M : Type 1} (𝓤 : URA M) (H : Heap 𝓤) (A : Atoms 𝓤) (mem : Mem
           -- [the locals; what frees them; the state's cell; its open borrow and two ghosts; what it owns; the other tokens; what the other parameters own]
           assigns ! (of-opd ! (load ! (from ! (hop ! (look ! 1 refl) (stop !))) (look-raw ! 14 refl))) (from ! (stop !)) (init ! 8 refl (LL.lawful DeviceT.the-type DeviceL.the-laws 𝓤 H A W .typed (device .now) _ was .0)) $
           assigns ! (addr ! (from ! (fld ! refl (hop ! (look-in ! 3 (sub ! 0 refl (whole !))) (stop !))))) (from ! (stop !)) (init ! 9 refl (tt, tt)) $
-          assigns ! (agg ! (and-then ! (load ! (from ! (stop !)) (look ! 9 refl)) (and-then ! (load ! (from ! (fld ! refl (stop !))) (look-in ! 3 (sub ! 1 refl (whole !)))) (no-more !)))) (from ! (stop !)) (init ! 10 refl (tt, (tt, (record { fits = are .1 .1 .0 .0 .1 .0 }, tt)))) $
+          assigns ! (agg ! (and-then ! (in-local ! 9 refl) (and-then ! (load ! (from ! (fld ! refl (stop !))) (look-in ! 3 (sub ! 1 refl (whole !)))) (no-more !)))) (from ! (stop !)) (init ! 10 refl (tt, (tt, (record { fits = are .1 .1 .0 .0 .1 .0 }, tt)))) $
           assigns ! (addr ! (from ! (fld ! refl (hop ! (look-in ! 4 (sub ! 0 refl (whole !))) (stop !))))) (from ! (stop !)) (init ! 11 refl (tt, tt)) $
-          assigns ! (agg ! (and-then ! (load ! (from ! (stop !)) (look ! 11 refl)) (and-then ! (load ! (from ! (fld ! refl (stop !))) (look-in ! 4 (sub ! 1 refl (whole !)))) (no-more !)))) (from ! (stop !)) (init ! 12 refl (tt, (tt, (record { fits = are .1 .1 .1 .0 .0 .1 .0 }, tt)))) $
+          assigns ! (agg ! (and-then ! (in-local ! 11 refl) (and-then ! (load ! (from ! (fld ! refl (stop !))) (look-in ! 4 (sub ! 1 refl (whole !)))) (no-more !)))) (from ! (stop !)) (init ! 12 refl (tt, (tt, (record { fits = are .1 .1 .1 .0 .0 .1 .0 }, tt)))) $
           move ! (19 ∷ 18 ∷ 20 ∷ []) $ asks ! (Rule .pre to-rule) refl $
           -- [what the call asks; the locals; …]
-          calls-at ! fm Rule known to-rule (and-then ! (load ! (from ! (stop !)) (look ! 9 refl)) (and-then ! (load ! (from ! (stop !)) (look ! 3 refl)) (and-then ! (load ! (from ! (stop !)) (look ! 11 refl)) (and-then ! (load ! (from ! (stop !)) (look ! 13 refl)) (and-then ! (load ! (from ! (stop !)) (look ! 6 refl)) (and-then ! (load ! (from ! (stop !)) (look ! 7 refl)) (no-more !))))))) (λ w.
+          calls-at ! fm Rule known to-rule (and-then ! (in-local ! 9 refl) (and-then ! (in-local ! 3 refl) (and-then ! (in-local ! 11 refl) (and-then ! (in-local ! 13 refl) (and-then ! (in-local ! 6 refl) (and-then ! (in-local ! 7 refl) (no-more !))))))) (λ w.
           answers W OutcomeT.the-type OutcomeL.the-laws (tokens 𝓤 3 (κs .1) (qs .1)) w (Lasts rule.ended (κs .1) passed) (lasts rule.ended (κs .1) passed) (Ruled a) (λ r zs e is.
-          unsaid ! $ unsaid ! $ last-list ! (λ same1. last-list ! (λ same2. unsaid ! $ unsaid ! $ drop ! $ move ! (positions 3 18) $
+          unsaid ! $ unsaid ! $ last-list ! (λ same-area. last-list ! (λ same-page. unsaid ! $ unsaid ! $ drop ! $ move ! (positions 3 18) $
           -- [the locals; what frees them; the state's cell; its open borrow and two ghosts; the last lists; the other tokens]
           land ! (from ! (stop !)) (init ! 7 refl (LL.lawful OutcomeT.the-type OutcomeL.the-laws 𝓤 H A W .typed r _ is .0)) $
           let fields = LL.owed OutcomeT.the-type OutcomeL.the-laws r _ is in
@@ -102,7 +103,7 @@ module _ {M : Type 1} (𝓤 : URA M) (H : Heap 𝓤) (A : Atoms 𝓤) (mem : Mem
           move ! (positions 14 4) $ given-back ! tt DeviceT.the-type DeviceL.the-laws DeviceL.the-plain (r .device) (device .ptr .0) (device .ptr .1) (fields .1 .0) $
           -- [what is known of the state; its borrow; the token; the locals; what frees them; the last lists; the other tokens]
           returns ! (look ! 3 refl) $ move ! (positions 3 14) $ frees-all ! (_ ∷ _ ∷ _ ∷ _ ∷ _ ∷ _ ∷ _ ∷ _ ∷ _ ∷ _ ∷ _ ∷ _ ∷ _ ∷ []) _ refl $
-          suffices ! _ (ends-at 𝓤 H A self.ended (stays parameters) (self.clauses 𝓤 H A mem run) W ((κs, qs, bounds, a, valuesOf parameters κs a), tt) _ (r .answer) (r .device, (tt, (zs .1 .1 .0, (zs .1 .1 .1 .0, (tt, (tt, tt)))))) (tt, (tt, (same1, (same2, (tt, (tt, tt))))))) $
+          suffices ! _ (ends-at 𝓤 H A self.ended (stays parameters) (self.clauses 𝓤 H A mem run) W ((κs, qs, bounds, a, valuesOf parameters κs a), tt) _ (r .answer) (r .device, (tt, (zs .1 .1 .0, (zs .1 .1 .1 .0, (tt, (tt, tt)))))) (tt, (tt, (same-area, (same-page, (tt, (tt, tt))))))) $
           says ! (ap (λ (z : Outcome). z .answer) (e .0), ap (λ (z : Outcome). z .device) (e .0), e .1 .0, e .1 .1) $ move ! (2 ∷ 5 ∷ []) $ join ! $ frame ! $
           -- what is had of the parameters, from the last to the first; and the result
           feqI ! (List Val) (ptr-vals device) (ptr-vals device) refl $ fjoin3 ! $ nothing ! $ nothing ! $ fjoin ! $ nothing ! $ fjoin ! $ move ! (2 ∷ 0 ∷ []) $ fjoin ! $ move ! (2 ∷ 0 ∷ []) $ fjoin ! $ nothing ! $ fjoin ! $ move ! (1 ∷ 0 ∷ []) $ fjoin ! $ frame ! $

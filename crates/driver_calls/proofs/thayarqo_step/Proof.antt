@@ -30,8 +30,9 @@ use denote.Triple.Call.{calls-at}
 use denote.Triple.Clauses.{lasts, Lasts}
 use denote.Triple.Table.{entered, cited}
 use denote.Triple.Walked.{says, ends-at}
-use Rattle.walks.proofs.Laws.Frame.{allocs-all, passes-all, frees-all}
-use Rattle.walks.proofs.Laws.Lent.{positions, tokens, lent, given-back, unsaid, last-list, asks, answers}
+use Rattle.walks.proofs.Laws.Frame.{positions, in-local, allocs-all, passes-all, frees-all}
+use Rattle.walks.proofs.Laws.Lent.{lent, given-back}
+use Rattle.walks.proofs.Laws.Callee.{tokens, asks, unsaid, last-list, answers}
 use Rattle.walks.proofs.Laws.Parameters.{Parameter, changed, by-value, changed-bytes, slots, stays, valuesOf, typed-all, Walk, meets}
 use Rattle.driver.specs.Step.{stepOf}
 use Rattle.driver_calls.specs.Told.{steppedOf}
@@ -86,14 +87,14 @@ module _ {M : Type 1} (𝓤 : URA M) (H : Heap 𝓤) (A : Atoms 𝓤) (mem : Mem
           -- [the locals; what frees them; the state's cell; its open borrow and two ghosts; what it owns; the other tokens; what the other parameters own]
           assigns ! (of-opd ! (load ! (from ! (hop ! (look ! 1 refl) (stop !))) (look-raw ! 12 refl))) (from ! (stop !)) (init ! 6 refl (LL.lawful DriverT.the-type DriverL.the-laws 𝓤 H A W .typed (driver .now) _ was .0)) $
           assigns ! (addr ! (from ! (fld ! refl (hop ! (look-in ! 3 (sub ! 0 refl (whole !))) (stop !))))) (from ! (stop !)) (init ! 7 refl (tt, tt)) $
-          assigns ! (agg ! (and-then ! (load ! (from ! (stop !)) (look ! 7 refl)) (and-then ! (load ! (from ! (fld ! refl (stop !))) (look-in ! 3 (sub ! 1 refl (whole !)))) (no-more !)))) (from ! (stop !)) (init ! 8 refl (tt, (tt, (record { fits = are .1 .1 .0 .0 .1 .0 }, tt)))) $
+          assigns ! (agg ! (and-then ! (in-local ! 7 refl) (and-then ! (load ! (from ! (fld ! refl (stop !))) (look-in ! 3 (sub ! 1 refl (whole !)))) (no-more !)))) (from ! (stop !)) (init ! 8 refl (tt, (tt, (record { fits = are .1 .1 .0 .0 .1 .0 }, tt)))) $
           assigns ! (addr ! (from ! (fld ! refl (hop ! (look-in ! 4 (sub ! 0 refl (whole !))) (stop !))))) (from ! (stop !)) (init ! 9 refl (tt, tt)) $
-          assigns ! (agg ! (and-then ! (load ! (from ! (stop !)) (look ! 9 refl)) (and-then ! (load ! (from ! (fld ! refl (stop !))) (look-in ! 4 (sub ! 1 refl (whole !)))) (no-more !)))) (from ! (stop !)) (init ! 10 refl (tt, (tt, (record { fits = are .1 .1 .1 .0 .0 .1 .0 }, tt)))) $
+          assigns ! (agg ! (and-then ! (in-local ! 9 refl) (and-then ! (load ! (from ! (fld ! refl (stop !))) (look-in ! 4 (sub ! 1 refl (whole !)))) (no-more !)))) (from ! (stop !)) (init ! 10 refl (tt, (tt, (record { fits = are .1 .1 .1 .0 .0 .1 .0 }, tt)))) $
           move ! (17 ∷ 16 ∷ 18 ∷ []) $ asks ! (Rule .pre to-rule) refl $
           -- [what the call asks; the locals; …]
-          calls-at ! fm Rule known to-rule (and-then ! (load ! (from ! (stop !)) (look ! 7 refl)) (and-then ! (load ! (from ! (stop !)) (look ! 3 refl)) (and-then ! (load ! (from ! (stop !)) (look ! 9 refl)) (and-then ! (load ! (from ! (stop !)) (look ! 11 refl)) (no-more !))))) (λ w.
+          calls-at ! fm Rule known to-rule (and-then ! (in-local ! 7 refl) (and-then ! (in-local ! 3 refl) (and-then ! (in-local ! 9 refl) (and-then ! (in-local ! 11 refl) (no-more !))))) (λ w.
           answers W StepOutcomeT.the-type StepOutcomeL.the-laws (tokens 𝓤 2 (κs .1) (qs .1)) w (Lasts rule.ended (κs .1) passed) (lasts rule.ended (κs .1) passed) (Ruled a) (λ r zs e is.
-          unsaid ! $ unsaid ! $ last-list ! (λ same1. last-list ! (λ same2. drop ! $ move ! (positions 3 16) $
+          unsaid ! $ unsaid ! $ last-list ! (λ same-area. last-list ! (λ same-packet. drop ! $ move ! (positions 3 16) $
           -- [the locals; what frees them; the state's cell; its open borrow and two ghosts; the last lists; the other tokens]
           land ! (from ! (stop !)) (init ! 5 refl (LL.lawful StepOutcomeT.the-type StepOutcomeL.the-laws 𝓤 H A W .typed r _ is .0)) $
           let fields = LL.owed StepOutcomeT.the-type StepOutcomeL.the-laws r _ is in
@@ -102,7 +103,7 @@ module _ {M : Type 1} (𝓤 : URA M) (H : Heap 𝓤) (A : Atoms 𝓤) (mem : Mem
           move ! (positions 12 4) $ given-back ! tt DriverT.the-type DriverL.the-laws DriverL.the-plain (r .driver) (driver .ptr .0) (driver .ptr .1) (fields .1 .0) $
           -- [what is known of the state; its borrow; the token; the locals; what frees them; the last lists; the other tokens]
           returns ! (look ! 3 refl) $ move ! (positions 3 12) $ frees-all ! (_ ∷ _ ∷ _ ∷ _ ∷ _ ∷ _ ∷ _ ∷ _ ∷ _ ∷ _ ∷ _ ∷ []) _ refl $
-          suffices ! _ (ends-at 𝓤 H A self.ended (stays parameters) (self.clauses 𝓤 H A mem run) W ((κs, qs, bounds, a, valuesOf parameters κs a), tt) _ (r .answer) (r .driver, (tt, (zs .1 .1 .0, (zs .1 .1 .1 .0, tt)))) (tt, (tt, (same1, (same2, tt))))) $
+          suffices ! _ (ends-at 𝓤 H A self.ended (stays parameters) (self.clauses 𝓤 H A mem run) W ((κs, qs, bounds, a, valuesOf parameters κs a), tt) _ (r .answer) (r .driver, (tt, (zs .1 .1 .0, (zs .1 .1 .1 .0, tt)))) (tt, (tt, (same-area, (same-packet, tt))))) $
           says ! (ap (λ (z : StepOutcome). z .answer) (e .0), ap (λ (z : StepOutcome). z .driver) (e .0), e .1 .0, e .1 .1) $ move ! (2 ∷ 5 ∷ []) $ join ! $ frame ! $
           -- what is had of the parameters, from the last to the first; and the result
           feqI ! (List Val) (ptr-vals driver) (ptr-vals driver) refl $ fjoin3 ! $ nothing ! $ move ! (2 ∷ 0 ∷ []) $ fjoin ! $ move ! (2 ∷ 0 ∷ []) $ fjoin ! $ nothing ! $ fjoin ! $ move ! (1 ∷ 0 ∷ []) $ fjoin ! $ frame ! $

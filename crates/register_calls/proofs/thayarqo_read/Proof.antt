@@ -29,8 +29,9 @@ use denote.Triple.Call.{calls-at}
 use denote.Triple.Clauses.{lasts, Lasts}
 use denote.Triple.Table.{entered, cited}
 use denote.Triple.Walked.{says, ends-at}
-use Rattle.walks.proofs.Laws.Frame.{allocs-all, passes-all, frees-all}
-use Rattle.walks.proofs.Laws.Lent.{positions, tokens, looked, shut, unsaid, asks, answers}
+use Rattle.walks.proofs.Laws.Frame.{positions, in-local, allocs-all, passes-all, frees-all}
+use Rattle.walks.proofs.Laws.Lent.{looked, shut}
+use Rattle.walks.proofs.Laws.Callee.{tokens, asks, unsaid, answers}
 use Rattle.walks.proofs.Laws.Parameters.{Parameter, read, by-value, number, read-bytes, slots, stays, valuesOf, typed-all, Walk, meets}
 use Rattle.registers.specs.Read.{readOf}
 use Rattle.device.specs.declared.Device.{Device}
@@ -84,7 +85,7 @@ module _ {M : Type 1} (𝓤 : URA M) (H : Heap 𝓤) (A : Atoms 𝓤) (mem : Mem
           move ! (9 ∷ 10 ∷ []) $ shut ! tt DeviceT.the-type DeviceL.the-laws DeviceL.the-plain q′ (device .now) (device .ptr .0) (device .ptr .1) was $
           move ! (11 ∷ 0 ∷ 12 ∷ []) $ asks ! (Rule .pre to-rule) refl $
           -- [what the call asks; the token; the locals; …]
-          calls-at ! fm Rule known to-rule (and-then ! (load ! (from ! (stop !)) (look ! 9 refl)) (and-then ! (load ! (from ! (stop !)) (look ! 4 refl)) (and-then ! (load ! (from ! (stop !)) (look ! 5 refl)) (and-then ! (load ! (from ! (stop !)) (look ! 6 refl)) (and-then ! (load ! (from ! (stop !)) (look ! 7 refl)) (and-then ! (load ! (from ! (stop !)) (look ! 8 refl)) (no-more !))))))) (λ w.
+          calls-at ! fm Rule known to-rule (and-then ! (in-local ! 9 refl) (and-then ! (in-local ! 4 refl) (and-then ! (in-local ! 5 refl) (and-then ! (in-local ! 6 refl) (and-then ! (in-local ! 7 refl) (and-then ! (in-local ! 8 refl) (no-more !))))))) (λ w.
           answers W ValueT.the-type ValueL.the-laws (tokens 𝓤 2 (κs .1) (qs .1)) w (Lasts rule.ended (κs .1) passed) (lasts rule.ended (κs .1) passed) (Ruled a) (λ r zs e is.
           unsaid ! $ unsaid ! $ unsaid ! $ unsaid ! $ unsaid ! $ unsaid ! $ drop ! $ move ! (positions 2 9) $
           -- [the locals; what frees them; the other tokens; the token]

@@ -34,8 +34,9 @@ use denote.Triple.Call.{calls-at}
 use denote.Triple.Clauses.{lasts, Lasts}
 use denote.Triple.Table.{entered, cited}
 use denote.Triple.Walked.{says, ends-at}
-use Rattle.walks.proofs.Laws.Frame.{allocs-all, passes-all, frees-all}
-use Rattle.walks.proofs.Laws.Lent.{positions, tokens, lent, given-back, unsaid, last-list, asks, answers}
+use Rattle.walks.proofs.Laws.Frame.{positions, in-local, allocs-all, passes-all, frees-all}
+use Rattle.walks.proofs.Laws.Lent.{lent, given-back}
+use Rattle.walks.proofs.Laws.Callee.{tokens, asks, unsaid, last-list, answers}
 use Rattle.walks.proofs.Laws.Parameters.{Parameter, changed, by-value, number, changed-bytes, read-bytes, slots, stays, valuesOf, typed-all, Walk, meets}
 use Rattle.registers.specs.Write.{writeOf}
 use Rattle.device.specs.declared.Device.{Device}
@@ -87,10 +88,10 @@ module _ {M : Type 1} (𝓤 : URA M) (H : Heap 𝓤) (A : Atoms 𝓤) (mem : Mem
           -- [the locals; what frees them; the state's cell; its open borrow and two ghosts; what it owns; the other tokens; what the other parameters own]
           assigns ! (of-opd ! (load ! (from ! (hop ! (look ! 1 refl) (stop !))) (look-raw ! 13 refl))) (from ! (stop !)) (init ! 9 refl (LL.lawful DeviceT.the-type DeviceL.the-laws 𝓤 H A W .typed (device .now) _ was .0)) $
           assigns ! (addr ! (from ! (fld ! refl (hop ! (look-in ! 3 (sub ! 0 refl (whole !))) (stop !))))) (from ! (stop !)) (init ! 10 refl (tt, tt)) $
-          assigns ! (agg ! (and-then ! (load ! (from ! (stop !)) (look ! 10 refl)) (and-then ! (load ! (from ! (fld ! refl (stop !))) (look-in ! 3 (sub ! 1 refl (whole !)))) (no-more !)))) (from ! (stop !)) (init ! 11 refl (tt, (tt, (record { fits = are .1 .1 .0 .0 .1 .0 }, tt)))) $
+          assigns ! (agg ! (and-then ! (in-local ! 10 refl) (and-then ! (load ! (from ! (fld ! refl (stop !))) (look-in ! 3 (sub ! 1 refl (whole !)))) (no-more !)))) (from ! (stop !)) (init ! 11 refl (tt, (tt, (record { fits = are .1 .1 .0 .0 .1 .0 }, tt)))) $
           move ! (18 ∷ 17 ∷ 19 ∷ []) $ asks ! (Rule .pre to-rule) refl $
           -- [what the call asks; the locals; …]
-          calls-at ! fm Rule known to-rule (and-then ! (load ! (from ! (stop !)) (look ! 10 refl)) (and-then ! (load ! (from ! (stop !)) (look ! 3 refl)) (and-then ! (load ! (from ! (stop !)) (look ! 12 refl)) (and-then ! (load ! (from ! (stop !)) (look ! 5 refl)) (and-then ! (load ! (from ! (stop !)) (look ! 6 refl)) (and-then ! (load ! (from ! (stop !)) (look ! 7 refl)) (and-then ! (load ! (from ! (stop !)) (look ! 8 refl)) (no-more !)))))))) (λ w.
+          calls-at ! fm Rule known to-rule (and-then ! (in-local ! 10 refl) (and-then ! (in-local ! 3 refl) (and-then ! (in-local ! 12 refl) (and-then ! (in-local ! 5 refl) (and-then ! (in-local ! 6 refl) (and-then ! (in-local ! 7 refl) (and-then ! (in-local ! 8 refl) (no-more !)))))))) (λ w.
           answers W OutcomeT.the-type OutcomeL.the-laws (tokens 𝓤 2 (κs .1) (qs .1)) w (Lasts rule.ended (κs .1) passed) (lasts rule.ended (κs .1) passed) (Ruled a) (λ r zs e is.
           unsaid ! $ unsaid ! $ last-list ! (λ same. unsaid ! $ unsaid ! $ unsaid ! $ unsaid ! $ drop ! $ move ! (positions 2 17) $
           -- [the locals; what frees them; the state's cell; its open borrow and two ghosts; the last lists; the other tokens]

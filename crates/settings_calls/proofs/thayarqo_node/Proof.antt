@@ -33,8 +33,9 @@ use denote.Triple.Call.{calls-at}
 use denote.Triple.Clauses.{lasts, Lasts}
 use denote.Triple.Table.{entered, cited}
 use denote.Triple.Walked.{says, ends-at}
-use Rattle.walks.proofs.Laws.Frame.{allocs-all, passes-all, frees-all}
-use Rattle.walks.proofs.Laws.Lent.{positions, tokens, lent, given-back, unsaid, asks, answers}
+use Rattle.walks.proofs.Laws.Frame.{positions, in-local, allocs-all, passes-all, frees-all}
+use Rattle.walks.proofs.Laws.Lent.{lent, given-back}
+use Rattle.walks.proofs.Laws.Callee.{tokens, asks, unsaid, answers}
 use Rattle.walks.proofs.Laws.Parameters.{Parameter, changed, read-bytes, slots, stays, valuesOf, typed-all, Walk, meets}
 use Rattle.nodes.specs.Nodes.{readNode}
 use Rattle.nodes.specs.declared.Settings.{Settings}
@@ -85,7 +86,7 @@ module _ {M : Type 1} (𝓤 : URA M) (H : Heap 𝓤) (A : Atoms 𝓤) (mem : Mem
           assigns ! (of-opd ! (load ! (from ! (hop ! (look ! 1 refl) (stop !))) (look-raw ! 7 refl))) (from ! (stop !)) (init ! 5 refl (LL.lawful SettingsT.the-type SettingsL.the-laws 𝓤 H A W .typed (settings .now) _ was .0)) $
           move ! (12 ∷ 11 ∷ 13 ∷ []) $ asks ! (Rule .pre to-rule) refl $
           -- [what the call asks; the locals; …]
-          calls-at ! fm Rule known to-rule (and-then ! (load ! (from ! (stop !)) (look ! 6 refl)) (and-then ! (load ! (from ! (stop !)) (look ! 3 refl)) (and-then ! (load ! (from ! (stop !)) (look ! 4 refl)) (no-more !)))) (λ w.
+          calls-at ! fm Rule known to-rule (and-then ! (in-local ! 6 refl) (and-then ! (in-local ! 3 refl) (and-then ! (in-local ! 4 refl) (no-more !)))) (λ w.
           answers W NodeAnswerT.the-type NodeAnswerL.the-laws (tokens 𝓤 2 (κs .1) (qs .1)) w (Lasts rule.ended (κs .1) passed) (lasts rule.ended (κs .1) passed) (Ruled a) (λ r zs e is.
           unsaid ! $ unsaid ! $ unsaid ! $ drop ! $ move ! (positions 1 11) $
           -- [the locals; what frees them; the state's cell; its open borrow and two ghosts; the other tokens]
