@@ -2,12 +2,8 @@
 use answers::DONE;
 use answers::MALFORMED;
 use kbdif_decode::i32_at;
-use kbdif_events::XENKBD_MT_EV_DOWN;
-use kbdif_events::XENKBD_MT_EV_MOTION;
 use kbdif_events::XENKBD_MT_EV_ORIENT;
 use kbdif_events::XENKBD_MT_EV_SHAPE;
-use kbdif_events::XENKBD_MT_EV_SYN;
-use kbdif_events::XENKBD_MT_EV_UP;
 use kbdif_events::XENKBD_TYPE_KEY;
 use kbdif_events::XENKBD_TYPE_MOTION;
 use kbdif_events::XENKBD_TYPE_MTOUCH;
@@ -149,20 +145,26 @@ fn orientation_at(bytes: &[u8], contact_limit: u32) -> FoundNumbers
     )
 }
 
+// Compares, and no match on the six subtypes: see kbdif_decode::touch_may_be_put.
 fn touch_at(bytes: &[u8], contact_limit: u32) -> FoundNumbers
     requires { ⌜ (length (now bytes) ≡ eventLength) × (getD (now bytes) 0 0 ≡ XENKBD-TYPE-MTOUCH) × (1 ≤ «contact_limit») ⌝ }
     ensures { λ r. ⌜ r ≡ foundOf (decoded (now (bytes .entry)) «contact_limit») ⌝ }
 {
     let subtype = bytes[1];
-    match subtype {
-        XENKBD_MT_EV_DOWN => placed_touch_at(bytes, XENKBD_MT_EV_DOWN, contact_limit),
-        XENKBD_MT_EV_UP => bare_touch_at(bytes, XENKBD_MT_EV_UP, contact_limit),
-        XENKBD_MT_EV_MOTION => placed_touch_at(bytes, XENKBD_MT_EV_MOTION, contact_limit),
-        XENKBD_MT_EV_SYN => bare_touch_at(bytes, XENKBD_MT_EV_SYN, contact_limit),
-        XENKBD_MT_EV_SHAPE => shape_at(bytes, contact_limit),
-        XENKBD_MT_EV_ORIENT => orientation_at(bytes, contact_limit),
-        _ => ring_numbers::refused(DONE),
+    if subtype > XENKBD_MT_EV_ORIENT {
+        return ring_numbers::refused(DONE);
     }
+    if subtype == XENKBD_MT_EV_ORIENT {
+        return orientation_at(bytes, contact_limit);
+    }
+    // Of the others the odd ones, up and syn, have no fields.
+    if subtype % 2 == 1 {
+        return bare_touch_at(bytes, subtype, contact_limit);
+    }
+    if subtype == XENKBD_MT_EV_SHAPE {
+        return shape_at(bytes, contact_limit);
+    }
+    placed_touch_at(bytes, subtype, contact_limit)
 }
 
 pub fn found_at(bytes: &[u8], contact_limit: u32) -> FoundNumbers
@@ -172,6 +174,10 @@ pub fn found_at(bytes: &[u8], contact_limit: u32) -> FoundNumbers
     let kind = bytes[0];
     if kind == XENKBD_TYPE_MTOUCH {
         return touch_at(bytes, contact_limit);
+    }
+    // Without this test the match would be a jump through a table.
+    if kind > XENKBD_TYPE_POS {
+        return ring_numbers::refused(DONE);
     }
     match kind {
         XENKBD_TYPE_MOTION => pointer_at(bytes, XENKBD_TYPE_MOTION),

@@ -48,13 +48,14 @@ fn put_refusal(page: &[u8], in_prod: u32, contact_limit: u32, event: &[u8]) -> u
     }
     // The front end may move its index at any time, so a call reads it once.
     let used = kbdif_page::distance(in_prod, words::read_u32(page, IN_CONS));
-    if used > RING_LENGTH {
-        return BAD_INDEX;
+    // Where there is room, one compare tells it.
+    if used < RING_LENGTH {
+        return DONE;
     }
     if used == RING_LENGTH {
         return NO_ROOM;
     }
-    DONE
+    BAD_INDEX
 }
 
 // Fills an event's place, eight bytes at a time.
@@ -100,13 +101,14 @@ pub fn take_refusal(page: &[u8], in_cons: u32, contact_limit: u32) -> u8
     }
     // The back end may move its index at any time, so a call reads it once.
     let unread = kbdif_page::distance(words::read_u32(page, IN_PROD), in_cons);
-    if unread > RING_LENGTH {
-        return BAD_INDEX;
+    // How far the newest event is from the oldest. Where there is none it wraps, so that one compare tells that an event waits.
+    if kbdif_page::distance(unread, 1) < RING_LENGTH {
+        return DONE;
     }
     if unread == 0 {
         return NOTHING_TO_READ;
     }
-    DONE
+    BAD_INDEX
 }
 
 // The front end's call. Its own index is the private one, never that of the page.

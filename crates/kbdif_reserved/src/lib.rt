@@ -72,15 +72,12 @@ pub fn bare_touch_is_clear(bytes: &[u8]) -> bool
     touch_is_clear(bytes)
 }
 
-// A touch with an orientation.
+// A touch with an orientation, which fills the lowest 16 bits of the eight bytes from 8 on.
 pub fn orientation_is_clear(bytes: &[u8]) -> bool
     requires { ⌜ length (now bytes) ≡ eventLength ⌝ }
     ensures { λ r. ⌜ r ≡ zeroOutside (now (bytes .entry)) 3 8 10 ⌝ }
 {
-    if words::read_u16(bytes, 10) != 0 {
-        return false;
-    }
-    if words::read_u32(bytes, 12) != 0 {
+    if eight_at(bytes, 8) / 65536 != 0 {
         return false;
     }
     touch_is_clear(bytes)

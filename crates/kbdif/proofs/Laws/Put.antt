@@ -1,12 +1,14 @@
 -- Laws of a put, by its answer.
-use Prim.Native.Nat.{ℕ, _+_, _-_, _<_}
+use Prim.Native.Nat.{ℕ, _+_, _-_, _≤_, _<_}
 use mathlib.Core.Path.{_≡_, ap, _∙_}
-use mathlib.Core.Bool.{true, not}
+use mathlib.Core.Logic.{_≢_}
+use mathlib.Core.Bool.{true, false, not}
 use mathlib.Core.List.{List, _++_}
 use native.Mathlib.Omega.{arith}
+use native.Mathlib.Decide.{decLt}
 use lib.Dec.{eqb, ltb}
 use lib.ListN.{length, take, drop}
-use borrow.Author.Tests.{ne-eqb, eqb-true, eqb-false, ltb-false, not-false}
+use borrow.Author.Tests.{ne-eqb, lt-ltb, le-ltb, eqb-true, eqb-false, ltb-false, not-false}
 use Rattle.answers.specs.Answers.{done, invalid, malformed, badIndex, noRoom}
 use Rattle.answers.specs.Refusals.{firstRefusal}
 use Rattle.answers.proofs.Laws.{none-holds}
@@ -15,6 +17,17 @@ use Rattle.kbdif_events.specs.Event.{eventLength}
 use Rattle.kbdif_decode.specs.Decode.{decoded, mayBePut}
 use Rattle.kbdif_page.specs.Page.{pageLength, ringLength, inConsOf, withInProd, nextIndex, distance, eventPlace, isContactLimit}
 use Rattle.kbdif.specs.Put.{putRefusals, putAnswered, putOf}
+
+-- ---- the distance, by what a put tests of it
+
+pub room-left : (used : ℕ) → used < ringLength → (ltb ringLength used ≡ false) × (eqb used ringLength ≡ false)
+room-left used few = (le-ltb ringLength used (omega arith), ne-eqb used ringLength (λ e. omega arith))
+
+pub too-far : (used : ℕ) → ringLength ≤ used → used ≢ ringLength → ltb ringLength used ≡ true
+too-far used many other = elim (decLt ringLength used) [
+  | yes h ↦ lt-ltb ringLength used h
+  | no h ↦ absurd (other (omega arith))
+]
 
 module _ (page : List ℕ) (inProd contactLimit : ℕ) (event : List ℕ) where
   -- what is known of a put that isn't refused

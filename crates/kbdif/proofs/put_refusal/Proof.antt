@@ -1,8 +1,9 @@
 use borrow.Author.Tests.{not-false}
 use mathlib.Core.Path.{sym, _∙_}
 use Rattle.kbdif_page.proofs.Laws.Page.{limit-positive}
-use borrow.Author.Tests.{eq-eqb, ne-eqb, lt-ltb, le-ltb}
+use borrow.Author.Tests.{eq-eqb, ne-eqb}
 use Rattle.answers.specs.Refusals.{firstRefusal}
+use Rattle.kbdif.proofs.Laws.Put.{room-left, too-far}
 use borrow.Author.Needs.{needs}
 use Rattle.kbdif.proofs.put_refusal.Statement.{statement}
 use Rattle.kbdif.proofs.put_refusal.Tie as tie
@@ -37,15 +38,16 @@ distance-requires c κs = search needs
 
 returns-5 : tie.Need-returns-5
 unfolding firstRefusal
-returns-5 c = rw (eq-eqb _ _ (c .before .before .before .before .before .before .before .before .if1 .left), eq-eqb _ _ (c .before .before .before .before .before .before .before .if2 .left), ← c .before .before .before .before .before .before .is-contact-limit .ensures, c .before .before .before .before .before .if3 .left, ← c .before .before .before .before .may-be-put .ensures, c .before .before .before .if4 .left, ← c .before .before .read-u32 .ensures, ← c .before .distance .ensures, lt-ltb _ _ (c .if5 .taken))
+returns-5 c = let clear = room-left _ (c .if5 .taken) in
+    rw (eq-eqb _ _ (c .before .before .before .before .before .before .before .before .if1 .left), eq-eqb _ _ (c .before .before .before .before .before .before .before .if2 .left), ← c .before .before .before .before .before .before .is-contact-limit .ensures, c .before .before .before .before .before .if3 .left, ← c .before .before .before .before .may-be-put .ensures, c .before .before .before .if4 .left, ← c .before .before .read-u32 .ensures, ← c .before .distance .ensures, clear .0, clear .1)
 
 returns-6 : tie.Need-returns-6
 unfolding firstRefusal
-returns-6 c = rw (eq-eqb _ _ (c .before .before .before .before .before .before .before .before .before .if1 .left), eq-eqb _ _ (c .before .before .before .before .before .before .before .before .if2 .left), ← c .before .before .before .before .before .before .before .is-contact-limit .ensures, c .before .before .before .before .before .before .if3 .left, ← c .before .before .before .before .before .may-be-put .ensures, c .before .before .before .before .if4 .left, ← c .before .before .before .read-u32 .ensures, ← c .before .before .distance .ensures, le-ltb _ _ (c .before .if5 .left), eq-eqb _ _ (c .if6 .taken))
+returns-6 c = rw (eq-eqb _ _ (c .before .before .before .before .before .before .before .before .before .if1 .left), eq-eqb _ _ (c .before .before .before .before .before .before .before .before .if2 .left), ← c .before .before .before .before .before .before .before .is-contact-limit .ensures, c .before .before .before .before .before .before .if3 .left, ← c .before .before .before .before .before .may-be-put .ensures, c .before .before .before .before .if4 .left, ← c .before .before .before .read-u32 .ensures, ← c .before .before .distance .ensures, c .if6 .taken)
 
 returns-7 : tie.Need-returns-7
 unfolding firstRefusal
-returns-7 c = rw (eq-eqb _ _ (c .before .before .before .before .before .before .before .before .before .if1 .left), eq-eqb _ _ (c .before .before .before .before .before .before .before .before .if2 .left), ← c .before .before .before .before .before .before .before .is-contact-limit .ensures, c .before .before .before .before .before .before .if3 .left, ← c .before .before .before .before .before .may-be-put .ensures, c .before .before .before .before .if4 .left, ← c .before .before .before .read-u32 .ensures, ← c .before .before .distance .ensures, le-ltb _ _ (c .before .if5 .left), ne-eqb _ _ (c .if6 .left))
+returns-7 c = rw (eq-eqb _ _ (c .before .before .before .before .before .before .before .before .before .if1 .left), eq-eqb _ _ (c .before .before .before .before .before .before .before .before .if2 .left), ← c .before .before .before .before .before .before .before .is-contact-limit .ensures, c .before .before .before .before .before .before .if3 .left, ← c .before .before .before .before .before .may-be-put .ensures, c .before .before .before .before .if4 .left, ← c .before .before .before .read-u32 .ensures, ← c .before .before .distance .ensures, too-far _ (c .before .if5 .left) (c .if6 .left))
 
 pub put-refusal-spec : {M : Type 1} → statement M
 put-refusal-spec =

@@ -1,6 +1,7 @@
 -- What is decoded of an event, by the tests of its form.
-use Prim.Native.Nat.{ℕ, _≤_}
+use Prim.Native.Nat.{ℕ, zero, suc, _%_, _≤_, _<_}
 use mathlib.Core.Path.{_≡_, refl, sym, ap, _∙_}
+use mathlib.Core.Logic.{_≢_, _⊎_, inl, inr}
 use mathlib.Core.Bool.{Bool, true, false, not, _&&_, cond, and-true}
 use mathlib.Core.List.{List, [], _∷_}
 use native.Mathlib.Omega.{arith}
@@ -50,6 +51,31 @@ pub put-judged : (fine : Bool) (event : RingEvent) {found : Decoded} → known e
 put-judged true event sure e = sym (ap mayBePut e ∙ sure)
 put-judged false event sure e = sym (ap mayBePut e)
 
+-- a number past a key isn't the key
+past : (number key : ℕ) → key < number → eqb number key ≡ false
+past number key high = ne-eqb number key (λ e. omega arith)
+
+-- the subtypes below the last one: the odd ones have no fields
+pub bare-subtype : (subtype : ℕ) → subtype ≤ XENKBD-MT-EV-ORIENT → subtype ≢ XENKBD-MT-EV-ORIENT → subtype % 2 ≡ 1
+    → (subtype ≡ XENKBD-MT-EV-UP) ⊎ (subtype ≡ XENKBD-MT-EV-SYN)
+bare-subtype zero low other odd = absurd (omega arith)
+bare-subtype (suc zero) low other odd = inl refl
+bare-subtype (suc (suc zero)) low other odd = absurd (omega arith)
+bare-subtype (suc (suc (suc zero))) low other odd = inr refl
+bare-subtype (suc (suc (suc (suc zero)))) low other odd = absurd (omega arith)
+bare-subtype (suc (suc (suc (suc (suc zero))))) low other odd = absurd (other refl)
+bare-subtype (suc (suc (suc (suc (suc (suc rest)))))) low other odd = absurd (omega arith)
+
+pub field-subtype : (subtype : ℕ) → subtype ≤ XENKBD-MT-EV-ORIENT → subtype ≢ XENKBD-MT-EV-ORIENT → subtype % 2 ≢ 1
+    → (subtype ≡ XENKBD-MT-EV-DOWN) ⊎ ((subtype ≡ XENKBD-MT-EV-MOTION) ⊎ (subtype ≡ XENKBD-MT-EV-SHAPE))
+field-subtype zero low other even = inl refl
+field-subtype (suc zero) low other even = absurd (even refl)
+field-subtype (suc (suc zero)) low other even = inr (inl refl)
+field-subtype (suc (suc (suc zero))) low other even = absurd (even refl)
+field-subtype (suc (suc (suc (suc zero)))) low other even = inr (inr refl)
+field-subtype (suc (suc (suc (suc (suc zero))))) low other even = absurd (other refl)
+field-subtype (suc (suc (suc (suc (suc (suc rest)))))) low other even = absurd (omega arith)
+
 module _ (bytes : List ℕ) (contactLimit : ℕ) where
   -- pressed and the contact
   abbrev allowedAs : RingEvent → Bool
@@ -96,6 +122,17 @@ module _ (bytes : List ℕ) (contactLimit : ℕ) where
     unfolding reservedIsZero extentOf layoutOf allZero
     unknown-found other same = other-formed {clear = true} other refl same refl
 
+    -- past the types below that of a touch
+    pub other-found : XENKBD-TYPE-POS < getD bytes 0 0 → getD bytes 0 0 ≢ XENKBD-TYPE-MTOUCH → decoded bytes contactLimit ≡ Event Unknown
+    unfolding eventAt lookup
+    other-found high other =
+        unknown-found (λ three. omega arith) (rw (
+          past (getD bytes 0 0) XENKBD-TYPE-MOTION (omega arith),
+          past (getD bytes 0 0) XENKBD-TYPE-KEY (omega arith),
+          past (getD bytes 0 0) XENKBD-TYPE-POS high,
+          ne-eqb (getD bytes 0 0) XENKBD-TYPE-MTOUCH other,
+        ))
+
   -- ---- touches
 
   module _ (kind : getD bytes 0 0 ≡ XENKBD-TYPE-MTOUCH) where
@@ -137,5 +174,32 @@ module _ (bytes : List ℕ) (contactLimit : ℕ) where
     unfolding touchAt lookup reservedIsZero extentOf layoutOf
     orientation-judged subtype e = touch-formed refl (rw subtype) e
 
-    pub unknown-touch-found : 1 ≤ contactLimit → touchAt bytes ≡ Unknown → decoded bytes contactLimit ≡ Event Unknown
-    unknown-touch-found some same = unknown-found some (λ three. omega arith) (touch-event same)
+    -- past the last subtype
+    pub unknown-touch-found : 1 ≤ contactLimit → XENKBD-MT-EV-ORIENT < getD bytes 1 0 → decoded bytes contactLimit ≡ Event Unknown
+    unfolding touchAt lookup
+    unknown-touch-found some high =
+        unknown-found some (λ three. omega arith) (touch-event (rw (
+          past (getD bytes 1 0) XENKBD-MT-EV-DOWN (omega arith),
+          past (getD bytes 1 0) XENKBD-MT-EV-UP (omega arith),
+          past (getD bytes 1 0) XENKBD-MT-EV-MOTION (omega arith),
+          past (getD bytes 1 0) XENKBD-MT-EV-SYN (omega arith),
+          past (getD bytes 1 0) XENKBD-MT-EV-SHAPE (omega arith),
+          past (getD bytes 1 0) XENKBD-MT-EV-ORIENT high,
+        )))
+
+    -- ---- what is judged alike
+
+    pub bare-put : {clear : Bool} → getD bytes 1 0 ≤ XENKBD-MT-EV-ORIENT → getD bytes 1 0 ≢ XENKBD-MT-EV-ORIENT → getD bytes 1 0 % 2 ≡ 1
+        → clear ≡ zeroOutside bytes 3 8 8 → (clear && ltb (getD bytes 2 0) contactLimit) ≡ mayBePut (decoded bytes contactLimit)
+    bare-put low other odd e = elim (bare-subtype (getD bytes 1 0) low other odd) [
+      | inl up ↦ put-judged _ _ refl (up-judged up e)
+      | inr syn ↦ put-judged _ _ refl (syn-judged syn e)
+    ]
+
+    pub touch-put : {clear : Bool} → getD bytes 1 0 ≤ XENKBD-MT-EV-ORIENT → getD bytes 1 0 ≢ XENKBD-MT-EV-ORIENT → getD bytes 1 0 % 2 ≢ 1
+        → clear ≡ zeroOutside bytes 3 8 16 → (clear && ltb (getD bytes 2 0) contactLimit) ≡ mayBePut (decoded bytes contactLimit)
+    touch-put low other even e = elim (field-subtype (getD bytes 1 0) low other even) [
+      | inl down ↦ put-judged _ _ refl (down-judged down e)
+      | inr (inl motion) ↦ put-judged _ _ refl (touch-motion-judged motion e)
+      | inr (inr shape) ↦ put-judged _ _ refl (shape-judged shape e)
+    ]

@@ -110,11 +110,13 @@ module _ (bytes : List ℕ) (size : length bytes ≡ eventLength) where
       zero-between bytes 8 16 eventLength (omega arith) (omega arith)
       ∙ rw (word-is 8 8 (u64At bytes 8) (omega arith) (omega arith))
 
-  pub after-orientation : allZero (between bytes 10 eventLength) ≡ (eqb (u16At bytes 10) 0 && (eqb (u32At bytes 12) 0 && allZero (between bytes 16 eventLength)))
+  pub after-orientation : IsBytes bytes → allZero (between bytes 10 eventLength) ≡ (eqb (u64At bytes 8 / 65536) 0 && allZero (between bytes 16 eventLength))
   unfolding numberFrom
-  after-orientation =
-      zero-between bytes 10 12 eventLength (omega arith) (omega arith)
-      ∙ rw (zero-between bytes 12 16 eventLength (omega arith) (omega arith), word-is 10 2 (u16At bytes 10) (omega arith) (omega arith), word-is 12 4 (u32At bytes 12) (omega arith) (omega arith))
+  after-orientation ok =
+      let low = ok 8 in
+      let high = ok 9 in
+      zero-between bytes 10 16 eventLength (omega arith) (omega arith)
+      ∙ rw (word-is 10 6 (u64At bytes 8 / 65536) (omega arith) (omega arith))
 
   pub tail : allZero (between bytes 16 eventLength) ≡ (eqb (u64At bytes 16) 0 && (eqb (u64At bytes 24) 0 && eqb (u64At bytes 32) 0))
   unfolding numberFrom
