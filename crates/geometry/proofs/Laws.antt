@@ -1,3 +1,4 @@
 pub mod Allowed
 pub mod Slots
 pub mod Products
+pub mod Powers

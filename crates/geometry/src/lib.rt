@@ -22,16 +22,17 @@ pub struct Ring {
     pub length: u32,
 }
 
+// The powers of two from 8 to 64. Four compares would become a test by counted zeros, which takes more instructions.
 fn is_record_size(size: u32) -> bool
     ensures { λ r. ⌜ r ≡ isRecordSize size ⌝ }
 {
-    match size {
-        8 => true,
-        16 => true,
-        32 => true,
-        64 => true,
-        _ => false,
+    if size < 8 {
+        return false;
     }
+    if size > 64 {
+        return false;
+    }
+    size & (size - 1) == 0
 }
 
 fn is_entry_size(size: u32) -> bool
