@@ -56,10 +56,10 @@ pub fn is_allowed(geometry: Geometry) -> bool
     if geometry.pages > 8 {
         return false;
     }
-    if !is_record_size(geometry.record_size) {
+    if !is_entry_size(geometry.entry_size) {
         return false;
     }
-    is_entry_size(geometry.entry_size)
+    is_record_size(geometry.record_size)
 }
 
 pub fn area_length(geometry: Geometry) -> usize

@@ -16,17 +16,18 @@ pub fn is_sized(geometry: Geometry, size: usize) -> bool
     size == geometry::area_length(geometry)
 }
 
+// Equal indices are both in range where one is. Told before the write index is tested, they cost a step fewer instructions.
 pub fn reading_refusal(ring: Ring, read: u32, write: u32) -> u8
     ensures { λ r. ⌜ r ≡ readingRefusal ring read write ⌝ }
 {
     if read >= ring.length {
         return BAD_INDEX;
     }
-    if write >= ring.length {
-        return BAD_INDEX;
-    }
     if read == write {
         return NOTHING_TO_READ;
+    }
+    if write >= ring.length {
+        return BAD_INDEX;
     }
     DONE
 }

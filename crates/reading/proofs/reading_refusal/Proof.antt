@@ -1,3 +1,4 @@
+use native.Mathlib.Omega.{arith}
 use Rattle.answers.specs.Refusals.{firstRefusal}
 use Rattle.reading.specs.Reading.{readingRefusal}
 use borrow.Author.Tests.{eq-eqb, le-leb, lt-leb, ne-eqb}
@@ -10,15 +11,19 @@ returns c = rw (le-leb _ _ (c .if1 .taken))
 
 returns-2 : tie.Need-returns-2
 unfolding readingRefusal firstRefusal
-returns-2 c = rw (lt-leb _ _ (c .before .before .if1 .left), le-leb _ _ (c .if2 .taken))
+returns-2 c =
+    let a = c .before .before .before .args in
+    let low = c .before .if1 .left in
+    let same = c .if2 .taken in
+    rw (lt-leb _ _ low, lt-leb (a .ring .length) (a .write) (omega (arith, low, same)), eq-eqb _ _ same)
 
 returns-3 : tie.Need-returns-3
 unfolding readingRefusal firstRefusal
-returns-3 c = rw (lt-leb _ _ (c .before .before .before .if1 .left), lt-leb _ _ (c .before .if2 .left), eq-eqb _ _ (c .if3 .taken))
+returns-3 c = rw (lt-leb _ _ (c .before .before .before .if1 .left), le-leb _ _ (c .if3 .taken))
 
 returns-4 : tie.Need-returns-4
 unfolding readingRefusal firstRefusal
-returns-4 c = rw (lt-leb _ _ (c .before .before .before .if1 .left), lt-leb _ _ (c .before .if2 .left), ne-eqb _ _ (c .if3 .left))
+returns-4 c = rw (lt-leb _ _ (c .before .before .before .if1 .left), lt-leb _ _ (c .if3 .left), ne-eqb _ _ (c .before .before .if2 .left))
 
 pub reading-refusal-spec : {M : Type 1} → statement M
 reading-refusal-spec = tie.close (tie.spec returns returns-2 returns-3 returns-4)
