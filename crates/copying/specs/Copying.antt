@@ -13,5 +13,6 @@ overwrite bytes at stretch = take at bytes ++ (stretch ++ drop (length stretch) 
 abbrev pub Agree : List ℕ → List ℕ → ℕ → ℕ → Type 0
 Agree left right at count = (i : ℕ) → at ≤ i → i < at + count → getD left i 0 ≡ getD right i 0
 
+-- Four bytes as a list.
 abbrev pub fourBytes : Four → List ℕ
 fourBytes four = four .first ∷ four .second ∷ four .third ∷ four .fourth ∷ []
