@@ -4,6 +4,10 @@ use mathlib.Core.List.{List, [], _∷_, _++_}
 use Rattle.words.specs.Words.{u16At, u32At, u16Bytes, u32Bytes}
 use Rattle.records.specs.declared.Event.{Event}
 
+-- A packet has so many events at most.
+abbrev pub mostEvents : ℕ
+mostEvents = 32
+
 -- Numbers within the widths of the fields: any event that code can hold.
 pub record EventFits (event : Event) : Type 0 where
   pub kind-fits : event .kind < 2 ^ 16

@@ -6,8 +6,11 @@ ghost use mathlib.Core.Path.{_≡_};
 ghost use Prim.Native.Nat.{_+_, _≤_, _<_};
 ghost use lib.ListN.{length};
 ghost use Rattle.records.specs.Event.{eventBytes, eventAt};
-ghost use Rattle.records.specs.Ring.{Holds, readPointer, writePointer, withReadPointer, nextIndex, unreadCount, hasRoom, putRecord};
+ghost use Rattle.records.specs.Ring.{Holds, readPointer, writePointer, withReadPointer, withWritePointer, nextIndex, unreadCount, hasRoom, putRecord};
 ghost use Rattle.records.specs.Unread.{recordAt};
+
+// A packet has so many events at most.
+pub const MOST_EVENTS: u32 = 32;
 
 #[repr(C)]
 pub struct Event {
@@ -56,6 +59,13 @@ pub fn set_read_pointer(area: &mut [u8], index: u32)
     ensures { λ _. ⌜ now (area .exit) ≡ withReadPointer (now (area .entry)) index ⌝ }
 {
     words::write_u32(area, 0, index);
+}
+
+pub fn set_write_pointer(area: &mut [u8], index: u32)
+    requires { ⌜ 8 ≤ length (now area) ⌝ }
+    ensures { λ _. ⌜ now (area .exit) ≡ withWritePointer (now (area .entry)) index ⌝ }
+{
+    words::write_u32(area, 4, index);
 }
 
 // By a compare, since a division costs more than the rest of a put.
@@ -108,6 +118,6 @@ pub fn put_record(ring: Ring, area: &mut [u8], index: u32, event: Event) -> u32
     let at = geometry::record_place(ring, index);
     encode(&mut area[at..at + 8], event);
     let next = next_index(ring, index);
-    words::write_u32(area, 4, next);
+    set_write_pointer(area, next);
     next
 }

@@ -1,3 +1,4 @@
+-- The record's stretch lies in the area, so it can be lent; what the four calls leave, one after the other, is a record put.
 use Prim.Native.Nat.{_+_, _≤_}
 use lib.ListN.{length}
 use native.Mathlib.Omega.{arith}
@@ -32,15 +33,20 @@ encode-requires c κs = search needs
 next-index-requires : tie.Need-next-index-requires
 next-index-requires c κs = search needs
 
-write-u32-requires : tie.Need-write-u32-requires
-write-u32-requires c κs = search needs
+set-write-pointer-requires : tie.Need-set-write-pointer-requires
+set-write-pointer-requires c κs = search needs
 
 same-length : tie.Need-same-length
 same-length c = search needs
 
 returns : tie.Need-returns
-returns c = let e = c .before .before .before .before .next-index .ensures in
-    (e, put-done _ _ _ _ (c .before .before .before .before .before .before .before .before .before .record-place .ensures) (c .before .before .before .before .before .before .before .encode .ensures) e (c .before .before .write-u32 .ensures))
+returns c =
+    let next = c .before .before .before .before in
+    let encoded = next .before .before .before in
+    let at = encoded .before .before .record-place .ensures in (
+      next .next-index .ensures,
+      put-done _ _ _ _ at (encoded .encode .ensures) (next .next-index .ensures) (c .before .before .set-write-pointer .ensures),
+    )
 
 pub put-record-spec : {M : Type 1} → statement M
 put-record-spec =
@@ -53,6 +59,6 @@ put-record-spec =
     part-encode-end
     encode-requires
     next-index-requires
-    write-u32-requires
+    set-write-pointer-requires
     same-length
     returns)
