@@ -6,12 +6,12 @@ use lib.Dec.{ltb}
 use Rattle.copying.specs.Copying.{overwrite}
 use Rattle.geometry.specs.declared.Geometry.{Geometry}
 use Rattle.records.specs.declared.Event.{Event}
-use Rattle.records.specs.Event.{eventBytes, eventsFrom}
+use Rattle.records.specs.Event.{mostEvents, eventBytes, eventsFrom}
 use Rattle.assembly.specs.declared.Driver.{Driver}
 use Rattle.assembly.specs.Transition.{receive}
 
 abbrev pub packetLength : ℕ
-packetLength = 256
+packetLength = mostEvents * 8
 
 -- An event that joined the packet, so that one more is held, stands behind the others. No other byte changes.
 unfoldable pub collected : Driver → Driver → Event → List ℕ → List ℕ

@@ -6,6 +6,7 @@ use Rattle.answers.specs.Answers.{done, malformed}
 use Rattle.geometry.specs.declared.Geometry.{Geometry}
 use Rattle.records.specs.declared.Event.{Event}
 use Rattle.records.specs.Codes.{noSlot}
+use Rattle.records.specs.Event.{mostEvents}
 use Rattle.assembly.specs.declared.Driver.{Driver}
 use Rattle.assembly.specs.declared.Stepped.{Stepped}
 use Rattle.assembly.specs.declared.Told.{Told}
@@ -101,7 +102,7 @@ moved slot driver = withSlot slot (spoiled driver)
 
 -- An event joins the packet, or is ignored up to the next report. After the 32nd the packet is too long.
 unfoldable pub joined : Driver → Driver
-joined driver = cond (driver .ignoring) driver (cond (leb 32 (driver .held)) (withOverlong driver) (withOneMore driver))
+joined driver = cond (driver .ignoring) driver (cond (leb mostEvents (driver .held)) (withOverlong driver) (withOneMore driver))
 
 -- A report: a gap after dropped records; malformed if spoiled or too long; else the packet, if one was begun.
 unfoldable pub reported : Driver → Told

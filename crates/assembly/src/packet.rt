@@ -1,13 +1,14 @@
 // The events of the packet that a driver collects.
 use crate::Driver;
 use records::Event;
+use records::MOST_EVENTS;
 ghost use mathlib.Core.Path.{_≡_};
 ghost use lib.ListN.{length};
 ghost use Rattle.assembly.specs.Collect.{packetLength, collected};
 ghost use Rattle.assembly.specs.Transition.{joined};
 
-// Thirty-two events of eight bytes.
-pub const PACKET_LENGTH: usize = 256;
+// The most events, of eight bytes each.
+pub const PACKET_LENGTH: usize = MOST_EVENTS as usize * 8;
 
 // An event joins the packet: it is written behind those that are held. Nothing is written while events are ignored, nor after the 32nd.
 pub(crate) fn join(driver: Driver, event: Event, packet: &mut [u8]) -> Driver
@@ -19,7 +20,7 @@ pub(crate) fn join(driver: Driver, event: Event, packet: &mut [u8]) -> Driver
     }
     let mut after = driver;
     let held = driver.held;
-    if held >= 32 {
+    if held >= MOST_EVENTS {
         after.overlong = true;
         return after;
     }

@@ -14,6 +14,7 @@ use Rattle.assembly.specs.declared.Told.the-variants as told
 use Rattle.driver.specs.declared.Oldest.{Oldest}
 use Rattle.driver.specs.declared.Oldest.the-variants as oldest
 use Rattle.records.specs.Codes.{noSlot, unknownSlot}
+use Rattle.records.specs.Event.{mostEvents}
 use Rattle.assembly.specs.Kind.{isSlot}
 use Rattle.assembly.specs.Transition.{tells, receive}
 use Rattle.assembly.specs.Collect.{packetLength, collected}
@@ -23,7 +24,7 @@ use Rattle.driver.specs.Reader.{oldestOf}
 -- At most 32 events are held, and the slot is none, unknown or in range.
 unfoldable pub isDriver : Geometry → Driver → Bool
 isDriver geometry driver =
-    leb (driver .held) 32
+    leb (driver .held) mostEvents
     && (eqb (driver .slot) noSlot || (eqb (driver .slot) unknownSlot || isSlot geometry (driver .slot)))
 
 -- A step is refused with 1 for the geometry, a length that is lent or the driver's state.

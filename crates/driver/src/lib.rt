@@ -11,6 +11,7 @@ use geometry::Ring;
 use reading::is_sized;
 use reading::reading_refusal;
 use records::Event;
+use records::MOST_EVENTS;
 use records::codes::NO_SLOT;
 use records::codes::UNKNOWN_SLOT;
 ghost use mathlib.Core.Path.{_≡_};
@@ -33,7 +34,7 @@ fn is_driver(geometry: Geometry, driver: Driver) -> bool
     requires { ⌜ allowed geometry ≡ true ⌝ }
     ensures { λ r. ⌜ r ≡ isDriver geometry driver ⌝ }
 {
-    if driver.held > 32 {
+    if driver.held > MOST_EVENTS {
         return false;
     }
     let slot = driver.slot;

@@ -9,6 +9,7 @@ use borrow.Author.Tests.{le-leb, lt-leb}
 use Rattle.geometry.specs.declared.Geometry.{Geometry}
 use Rattle.records.specs.declared.Event.{Event}
 use Rattle.records.specs.Codes.{noSlot}
+use Rattle.records.specs.Event.{mostEvents}
 use Rattle.assembly.specs.declared.Driver.{Driver}
 use Rattle.assembly.specs.declared.Kind.{Kind}
 use Rattle.assembly.specs.declared.Kind.the-variants as kind
@@ -31,16 +32,16 @@ without-held slot driver = go (eqb (driver .slot) slot) refl
     go true e = rw e (moved-held noSlot driver)
     go false e = rw e
 
-joined-held : (driver : Driver) → driver .held ≤ 32 → joined driver .held ≤ 32
+joined-held : (driver : Driver) → driver .held ≤ mostEvents → joined driver .held ≤ mostEvents
 unfolding joined
-joined-held driver few = go (driver .ignoring) refl (decLe 32 (driver .held))
+joined-held driver few = go (driver .ignoring) refl (decLe mostEvents (driver .held))
   where
-    go : (ignoring : Bool) → driver .ignoring ≡ ignoring → Dec (32 ≤ driver .held) → joined driver .held ≤ 32
+    go : (ignoring : Bool) → driver .ignoring ≡ ignoring → Dec (mostEvents ≤ driver .held) → joined driver .held ≤ mostEvents
     go true e d = rw e few
-    go false e (yes full) = rw (e, le-leb 32 (driver .held) full) few
-    go false e (no free) = rw (e, lt-leb 32 (driver .held) (omega arith)) (omega arith)
+    go false e (yes full) = rw (e, le-leb mostEvents (driver .held) full) few
+    go false e (no free) = rw (e, lt-leb mostEvents (driver .held) (omega arith)) (omega arith)
 
-kind-held : (k : Kind) (event : Event) (driver : Driver) → driver .held ≤ 32 → received k event driver .driver .held ≤ 32
+kind-held : (k : Kind) (event : Event) (driver : Driver) → driver .held ≤ mostEvents → received k event driver .driver .held ≤ mostEvents
 kind-held kind.SynReport event driver few = omega arith
 kind-held kind.SynDropped event driver few = omega arith
 kind-held kind.DevSet event driver few = omega (arith, moved-held (event .value) driver)
@@ -51,5 +52,6 @@ kind-held kind.BadDevSet event driver few = omega (arith, moved-held noSlot driv
 kind-held kind.BadDev event driver few = few
 kind-held kind.Other event driver few = joined-held driver few
 
-pub held-few : (geometry : Geometry) (event : Event) (driver : Driver) → driver .held ≤ 32 → receive geometry event driver .driver .held ≤ 32
+pub held-few : (geometry : Geometry) (event : Event) (driver : Driver) → driver .held ≤ mostEvents
+    → receive geometry event driver .driver .held ≤ mostEvents
 held-few geometry event driver few = kind-held (kindOf geometry event) event driver few
