@@ -10,7 +10,19 @@
  * A lent buffer is a pointer and a length in bytes. No pointer is NULL, also where the length is 0. Buffers and states of one call
  * don't overlap. A bool is 0 or 1: any other byte in its place is no bool, and such a state must not be lent.
  *
- * A guest may write its pages at any time. Work on a copy while it runs; within a call its pointer is read once.
+ * When the other end runs at the same time. What is promised here holds while nobody else writes the lent pages, and a running guest
+ * may write its pages at any moment. A call loads the other end's index once. The order of its loads and stores of shared bytes:
+ *
+ *     thayarqo_put_packet                loads READ_PTR; stores the 8 bytes of each record before WRITE_PTR moves past it
+ *     thayarqo_add, thayarqo_remove      load READ_PTR; store the entry, then the 8 bytes of its record, then WRITE_PTR
+ *     thayarqo_step, thayarqo_copy_out   load READ_PTR and WRITE_PTR, then the records; store READ_PTR last
+ *     thayarqo_ring_put                  loads in_cons; stores the 40 bytes of the event, then in_prod
+ *     thayarqo_ring_take                 loads in_prod, then the event; stores in_cons last
+ *
+ * A switch-on stores READ_PTR, WRITE_PTR and the first records, so no driver may read meanwhile. All of these are plain loads and
+ * stores: barriers are the caller's. Make the call on a copy of the pages: before it, load the other end's index (acquire) and copy
+ * in the records that it may read; after it, copy out the bytes that it wrote and store the own index (release). The module `live`
+ * of rust/thayarqo does so, at a switch-on too.
  */
 #ifndef THAYARQO_H
 #define THAYARQO_H
@@ -76,7 +88,10 @@ struct thayarqo_value {
     uint32_t value; /* 0 where the read was refused */
 };
 
-/* A device that is off, with no slot taken, CLIENT_REV never written, and all else 0. */
+/*
+ * A device that is off, with no slot taken, CLIENT_REV never written, current_slot THAYARQO_NO_SLOT, and all else 0. A struct of zeros
+ * isn't one: its current slot is 0, which isn't taken, so every call answers 1 to it.
+ */
 struct thayarqo_device thayarqo_fresh_device(void);
 
 /* Reads a register or a word of the pages. Answers 1, 2, 4. Changes nothing. */

@@ -1,7 +1,8 @@
 /*
  * The Xen keyboard ring: events as numbers and as bytes, the back end's put and the front end's take.
  *
- * What thayarqo.h says of every call holds here too: how answers are ordered, what a refusal leaves, which pointers may be lent.
+ * What thayarqo.h says of every call holds here too: how answers are ordered, what a refusal leaves, which pointers may be lent, and
+ * in which order shared bytes are loaded and stored.
  */
 #ifndef THAYARQO_RING_H
 #define THAYARQO_RING_H

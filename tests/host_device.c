@@ -38,6 +38,21 @@ static void start_fresh(void)
     reads("a word of the area", THAYARQO_DONE, 0x77777777, FIRST_RECORD, 4);
 }
 
+/* Zeros aren't a fresh device: slot 0 is current, and isn't taken. */
+static void refuse_zeros(void)
+{
+    static const struct thayarqo_device zeros = {false, false, false, false, false, 0, 0, 0, 0};
+    uint8_t entry[ENTRY];
+    make_entry(entry, MOUSE, BUTTONS);
+    *device = next_device = zeros;
+    reads("a read of a device of zeros", THAYARQO_INVALID, 0, 0, 4);
+    answers("a write to it", THAYARQO_INVALID, write_register(CLIENT_REV, 2));
+    answers("an add to it", THAYARQO_INVALID, add(SLOT, entry, ENTRY));
+    answers("a remove from it", THAYARQO_INVALID, remove_slot(SLOT));
+    answers("a packet for it", THAYARQO_INVALID, put_motions(SLOT, 1, 0));
+    *device = next_device = thayarqo_fresh_device();
+}
+
 static void add_while_off(void)
 {
     uint8_t entry[ENTRY];
@@ -178,6 +193,7 @@ int main(void)
 {
     make_world();
     start_fresh();
+    refuse_zeros();
     add_while_off();
     negotiate();
     refuse_accesses();
