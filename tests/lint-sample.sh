@@ -1,6 +1,8 @@
 # shellcheck shell=sh
-# For tests/lint.test: a repository without a fault, with what a careless reader would take for one.
-# Its files are written from here, since rt refuses a source that is in no listed crate.
+# For the tests of tools/lint: a repository without a fault, with what a careless reader would take for
+# one, and what the lint has to say of it. Its files are written from here, since rt refuses a source
+# that is in no listed crate.
+lint=$PWD/tools/lint
 top=${scratch:?}/top
 
 # The library core is no interface crate, so its public functions may have a requires.
@@ -135,4 +137,45 @@ END
     sample_face
     sample_show
     sample_logs
+}
+
+# Runs the lint on the sample. Leaves what it writes in $scratch/out, and sets status.
+run_lint() { # [--logs]
+    "$lint" "$@" "$top" >"$scratch/out" 2>&1
+    status=$?
+}
+
+# The lint has to end with status 0 and one line.
+passes() { # NAME LINE [--logs]
+    name=$1 line=$2
+    shift 2
+    run_lint "$@"
+    if [ "$status" -ne 0 ]; then
+        not_ok "$name" "the status is $status" <"$scratch/out"
+    elif [ "$(cat "$scratch/out")" != "$line" ]; then
+        not_ok "$name" "it does not write '$line'" <"$scratch/out"
+    else
+        ok "$name"
+    fi
+}
+
+# The lint has to end with status 1 and one line: the place of TEXT in FILE (where TEXT is empty, its
+# first line), and a message with WORDS.
+finds() { # NAME FILE TEXT WORDS [--logs]
+    name=$1 file=$2 text=$3 words=$4
+    shift 4
+    line=1
+    [ -z "$text" ] || line=$(grep -nF "$text" "$top/$file" | sed -n '1s/:.*//p')
+    run_lint "$@"
+    found=$(cat "$scratch/out")
+    if [ "$status" -ne 1 ]; then
+        not_ok "$name" "the status is $status" <"$scratch/out"
+        return
+    fi
+    case $found in
+    *"
+"*) not_ok "$name" 'more than one fault' <"$scratch/out" ;;
+    "$file:$line: "*"$words"*) ok "$name" ;;
+    *) not_ok "$name" "no fault '$words' at $file:$line" <"$scratch/out" ;;
+    esac
 }
