@@ -51,6 +51,12 @@ END
 abbrev pub axiomless : Type 1
 axiomless = Type 0
 END
+    # A line of 140 columns, and of more bytes, and a chain of six.
+    put "$top/crates/core/proofs/left/Proof.antt" <<'END'
+-- Computation decides it.
+use needs
+left c = c .before .before .before .before .before .before .args ≡≡≡≡≡≡≡≡≡≡≡≡≡≡≡≡≡≡≡≡≡≡≡≡≡≡≡≡≡≡≡≡≡≡≡≡≡≡≡≡≡≡≡≡≡≡≡≡≡≡≡≡≡≡≡≡≡≡≡≡≡≡≡≡≡≡≡≡≡≡≡≡≡≡≡
+END
     put "$top/crates/core/must-fail/left_is_seven.edit" <<'END'
 # The left half is said to be seven.
 file: src/lib.rt
