@@ -11,29 +11,61 @@ fn assert_found(fault: Fault) {
     assert!(difference.is_some(), "{fault:?} makes no difference");
 }
 
-#[test]
-fn unread_without_modulus_is_found() {
-    assert_found(Fault::UnreadWithoutModulus);
+/// A test for each fault, named after it, and the list of those that have one.
+macro_rules! finds {
+    ($($test:ident: $fault:ident,)*) => {
+        const FOUND: &[Fault] = &[$(Fault::$fault,)*];
+
+        mod finds {
+            use super::*;
+
+            $(
+                #[test]
+                fn $test() { assert_found(Fault::$fault); }
+            )*
+        }
+    };
+}
+
+finds! {
+    unread_without_modulus: UnreadWithoutModulus,
+    room_for_a_full_ring: RoomForAFullRing,
+    entries_stepped_at_68: EntriesSteppedAt68,
+    button_bits_from_zero: ButtonBitsFromZero,
+    relbits_consulted: RelbitsConsulted,
+    interrupts_read_at_bit_2: InterruptsReadAtBit2,
+    read_only_before_no_register: ReadOnlyBeforeNoRegister,
+    isr_not_cleared: IsrNotCleared,
+    client_rev_writable_while_on: ClientRevWritableWhileOn,
+    read_pointer_masked: ReadPointerMasked,
+    lost_mark_after_switch_on: LostMarkAfterSwitchOn,
+    malformed_before_slot: MalformedBeforeSlot,
+    packet_of_33_events: PacketOf33Events,
+    packet_event_by_event: PacketEventByEvent,
+    lost_mark_not_set_at_10: LostMarkNotSetAt10,
+    dev_set_missing: DevSetMissing,
+    gap_shown_twice: GapShownTwice,
+    isr_without_interrupts: IsrWithoutInterrupts,
+    entry_stored_to_68: EntryStoredTo68,
+    current_slot_after_remove: CurrentSlotAfterRemove,
+    reset_all_as_minus_one: ResetAllAsMinusOne,
+    spoiled_packet_told: SpoiledPacketTold,
+    overlong_packet_told: OverlongPacketTold,
+    malformed_record_kept: MalformedRecordKept,
+    copy_out_counts_limit: CopyOutCountsLimit,
+    ring_place_modulo_50: RingPlaceModulo50,
+    ring_index_moved_at_refusal: RingIndexMovedAtRefusal,
+    pressed_above_one: PressedAboveOne,
+    contact_at_limit: ContactAtLimit,
+    leading_zero: LeadingZero,
+    flag_of_two: FlagOfTwo,
+    contacts_of_33: ContactsOf33,
+    raw_without_absolute: RawWithoutAbsolute,
 }
 
 #[test]
-fn entries_stepped_at_68_are_found() {
-    assert_found(Fault::EntriesSteppedAt68);
-}
-
-#[test]
-fn a_packet_event_by_event_is_found() {
-    assert_found(Fault::PacketEventByEvent);
-}
-
-#[test]
-fn reset_all_as_minus_one_is_found() {
-    assert_found(Fault::ResetAllAsMinusOne);
-}
-
-#[test]
-fn button_bits_from_zero_are_found() {
-    assert_found(Fault::ButtonBitsFromZero);
+fn every_wrong_build_has_its_test() {
+    assert_eq!(FOUND, Fault::ALL);
 }
 
 #[test]
@@ -62,10 +94,21 @@ fn the_right_build_makes_no_difference_and_meets_every_answer() {
     }
 }
 
+/// Faults that the driver's side sees, with nothing to compare with.
 #[test]
-fn half_a_packet_breaks_a_promise_of_lists() {
-    let half = Model {
-        fault: Fault::PacketEventByEvent,
-    };
-    assert!(delivery::run(&half, SEED, CALLS).broken.is_some());
+fn wrong_builds_break_a_promise_of_lists() {
+    for fault in [
+        Fault::RoomForAFullRing,
+        Fault::LostMarkAfterSwitchOn,
+        Fault::PacketOf33Events,
+        Fault::PacketEventByEvent,
+        Fault::DevSetMissing,
+        Fault::GapShownTwice,
+        Fault::CurrentSlotAfterRemove,
+        Fault::RingPlaceModulo50,
+        Fault::RingIndexMovedAtRefusal,
+    ] {
+        let broken = delivery::run(&Model { fault }, SEED, CALLS).broken;
+        assert!(broken.is_some(), "{fault:?} breaks no promise");
+    }
 }

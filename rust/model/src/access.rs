@@ -5,7 +5,7 @@ use crate::bytes::{put_word, word};
 use crate::device::{Device, NO_SLOT};
 use crate::geometry::{Geometry, PAGE};
 use crate::records::{put_records, Event, ALL_SLOTS, DEV_CONF, DEV_RESET, EV_DEV, READ_POINTER, WRITE_POINTER};
-use crate::Model;
+use crate::{Fault, Model};
 
 pub const MAGIC: u64 = 0;
 pub const REV: u64 = 4;
@@ -29,23 +29,6 @@ pub struct Value {
     pub value: u32,
 }
 
-/// What a register of the first page reads, if there is one.
-fn register(device: &Device, geometry: Geometry, offset: u64) -> Option<u32> {
-    Some(match offset {
-        MAGIC => 0x584D_4F55,
-        REV if device.client_rev_written => 2,
-        REV => 1,
-        CONTROL => u32::from(device.on) + 2 * u32::from(device.interrupts),
-        EVENT_SIZE => geometry.record_size,
-        NPAGES => geometry.pages,
-        ACCELERATION => 0,
-        ISR => u32::from(device.isr),
-        CONF_SIZE => geometry.entry_size,
-        CLIENT_REV => device.client_rev,
-        _ => return None,
-    })
-}
-
 /// A word of the pages behind the first one. The offset is inside the BAR.
 fn page_word(area: &[u8], page: &[u8], offset: u64) -> u32 {
     let at = offset as usize - PAGE;
@@ -56,67 +39,14 @@ fn page_word(area: &[u8], page: &[u8], offset: u64) -> u32 {
     }
 }
 
-/// 1, 2, 4: what reads and writes refuse alike.
-fn refusal(device: &Device, geometry: Geometry, area: &[u8], page: &[u8], offset: u64, width: u32) -> u8 {
-    if device.is_invalid(geometry, area, page) {
-        return INVALID;
-    }
-    if width != 4 || !offset.is_multiple_of(4) || offset >= geometry.bar_length() {
-        return BAD_ACCESS;
-    }
-    if offset < PAGE as u64 && register(device, geometry, offset).is_none() {
-        return NO_REGISTER;
-    }
-    DONE
-}
-
-/// The pointers cleared, DEV_RESET of all, DEV_CONF of each taken slot.
-fn switch_on(device: &mut Device, geometry: Geometry, area: &mut [u8]) -> u8 {
-    let mut records = vec![Event::new(EV_DEV, DEV_RESET, ALL_SLOTS)];
-    for slot in device.taken_slots() {
-        records.push(Event::new(EV_DEV, DEV_CONF, slot));
-    }
-    if records.len() > geometry.ring_length() as usize - 1 {
-        return NO_ROOM;
-    }
-    device.on = true;
-    device.write_index = 0;
-    device.current_slot = NO_SLOT;
-    device.lost = false;
-    put_word(area, READ_POINTER, 0);
-    put_word(area, WRITE_POINTER, 0);
-    put_records(device, geometry, area, &records);
-    DONE
-}
-
-/// Bit 0 stays 0 unless CLIENT_REV is 2.
-fn write_control(device: &mut Device, geometry: Geometry, area: &mut [u8], value: u32) -> u8 {
-    let on = value & ENABLE != 0 && device.client_rev == 2;
-    if on && !device.on {
-        let answer = switch_on(device, geometry, area);
-        if answer != DONE {
-            return answer;
-        }
-    }
-    device.on = on;
-    device.interrupts = value & INTERRUPTS != 0;
-    DONE
-}
-
-/// Ignored while on.
-fn write_client_rev(device: &mut Device, value: u32) {
-    if !device.on {
-        device.client_rev_written = true;
-        device.client_rev = if value == 2 { 2 } else { 0 };
-    }
-}
-
 impl Model {
     /// Refusals in order: 1, 2, 4.
     pub fn read(self, device: &Device, geometry: Geometry, area: &[u8], page: &[u8], offset: u64, width: u32) -> Value {
-        let answer = refusal(device, geometry, area, page, offset, width);
+        let answer = self.refusal(device, geometry, area, page, offset, width);
         let value = match answer {
-            DONE => register(device, geometry, offset).unwrap_or_else(|| page_word(area, page, offset)),
+            DONE => self
+                .register(device, geometry, offset)
+                .unwrap_or_else(|| page_word(area, page, offset)),
             _ => 0,
         };
         Value { answer, value }
@@ -134,19 +64,98 @@ impl Model {
         width: u32,
         value: u32,
     ) -> u8 {
-        let answer = refusal(device, geometry, area, page, offset, width);
+        let answer = self.refusal(device, geometry, area, page, offset, width);
+        if answer == NO_REGISTER && self.has(Fault::ReadOnlyBeforeNoRegister) {
+            return READ_ONLY;
+        }
         if answer != DONE {
             return answer;
         }
         match offset {
-            CONTROL => return write_control(device, geometry, area, value),
+            CONTROL => return self.write_control(device, geometry, area, value),
             ACCELERATION => {}
-            ISR => device.isr = false,
-            CLIENT_REV => write_client_rev(device, value),
+            ISR => device.isr &= self.has(Fault::IsrNotCleared),
+            CLIENT_REV => self.write_client_rev(device, value),
+            READ_PTR if self.has(Fault::ReadPointerMasked) => {
+                put_word(area, READ_POINTER, value % geometry.ring_length())
+            }
             READ_PTR => put_word(area, READ_POINTER, value),
             _ => return READ_ONLY,
         }
         DONE
+    }
+
+    /// What a register of the first page reads, if there is one.
+    fn register(self, device: &Device, geometry: Geometry, offset: u64) -> Option<u32> {
+        let interrupts_bit = 1 + u32::from(self.has(Fault::InterruptsReadAtBit2));
+        Some(match offset {
+            MAGIC => 0x584D_4F55,
+            REV if device.client_rev_written => 2,
+            REV => 1,
+            CONTROL => u32::from(device.on) + (u32::from(device.interrupts) << interrupts_bit),
+            EVENT_SIZE => geometry.record_size,
+            NPAGES => geometry.pages,
+            ACCELERATION => 0,
+            ISR => u32::from(device.isr),
+            CONF_SIZE => geometry.entry_size,
+            CLIENT_REV => device.client_rev,
+            _ => return None,
+        })
+    }
+
+    /// 1, 2, 4: what reads and writes refuse alike.
+    fn refusal(self, device: &Device, geometry: Geometry, area: &[u8], page: &[u8], offset: u64, width: u32) -> u8 {
+        if device.is_invalid(geometry, area, page) {
+            return INVALID;
+        }
+        if width != 4 || !offset.is_multiple_of(4) || offset >= geometry.bar_length() {
+            return BAD_ACCESS;
+        }
+        if offset < PAGE as u64 && self.register(device, geometry, offset).is_none() {
+            return NO_REGISTER;
+        }
+        DONE
+    }
+
+    /// The pointers cleared, DEV_RESET of all, DEV_CONF of each taken slot.
+    fn switch_on(self, device: &mut Device, geometry: Geometry, area: &mut [u8]) -> u8 {
+        let mut records = vec![Event::new(EV_DEV, DEV_RESET, ALL_SLOTS)];
+        for slot in device.taken_slots() {
+            records.push(Event::new(EV_DEV, DEV_CONF, slot));
+        }
+        if records.len() > geometry.ring_length() as usize - 1 {
+            return NO_ROOM;
+        }
+        device.on = true;
+        device.write_index = 0;
+        device.current_slot = NO_SLOT;
+        device.lost &= self.has(Fault::LostMarkAfterSwitchOn);
+        put_word(area, READ_POINTER, 0);
+        put_word(area, WRITE_POINTER, 0);
+        put_records(device, geometry, area, &records);
+        DONE
+    }
+
+    /// Bit 0 stays 0 unless CLIENT_REV is 2.
+    fn write_control(self, device: &mut Device, geometry: Geometry, area: &mut [u8], value: u32) -> u8 {
+        let on = value & ENABLE != 0 && device.client_rev == 2;
+        if on && !device.on {
+            let answer = self.switch_on(device, geometry, area);
+            if answer != DONE {
+                return answer;
+            }
+        }
+        device.on = on;
+        device.interrupts = value & INTERRUPTS != 0;
+        DONE
+    }
+
+    /// Ignored while on.
+    fn write_client_rev(self, device: &mut Device, value: u32) {
+        if !device.on || self.has(Fault::ClientRevWritableWhileOn) {
+            device.client_rev_written = true;
+            device.client_rev = if value == 2 { 2 } else { 0 };
+        }
     }
 }
 

@@ -2,7 +2,7 @@
 
 use crate::answer::{BAD_SETTING, DONE};
 use crate::settings::{Parameter, Settings};
-use crate::Model;
+use crate::{Fault, Model};
 
 /// The modes, the numbers and the two disable flags; all 0 where the answer isn't.
 #[derive(Clone, Copy, Debug, Default, PartialEq, Eq)]
@@ -38,10 +38,13 @@ impl Model {
     pub fn close(self, settings: &Settings) -> Closed {
         let absolute = settings.feature_abs_pointer && settings.request_abs_pointer;
         let multi_touch = settings.feature_multi_touch && settings.request_multi_touch;
-        let raw = settings.feature_raw_pointer && settings.request_raw_pointer && absolute;
+        let raw = settings.feature_raw_pointer
+            && settings.request_raw_pointer
+            && (absolute || self.has(Fault::RawWithoutAbsolute));
+        let most_contacts = 32 + u32::from(self.has(Fault::ContactsOf33));
         let sized = all_given(&[settings.width, settings.height]);
         let touch_sized = all_given(&[settings.contacts, settings.touch_width, settings.touch_height])
-            && (1..=32).contains(&settings.contacts.value);
+            && (1..=most_contacts).contains(&settings.contacts.value);
         if absolute && !raw && !sized || multi_touch && !touch_sized {
             return Closed {
                 answer: BAD_SETTING,

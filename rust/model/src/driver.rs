@@ -151,15 +151,20 @@ impl Model {
             return Told::Refused(NOTHING_TO_READ);
         }
         let record = Event::read(area, geometry.record_at(read));
-        put_word(area, READ_POINTER, (read + 1) % length);
-        self.receive(driver, record, geometry.slots(), packet)
+        let told = self.receive(driver, record, geometry.slots(), packet);
+        if told.answer() == DONE || !self.has(Fault::MalformedRecordKept) {
+            put_word(area, READ_POINTER, (read + 1) % length);
+        }
+        told
     }
 
     fn receive(self, driver: &mut Driver, record: Event, slots: u32, packet: &mut [u8]) -> Told {
-        let all = match self.fault {
-            Fault::ResetAllAsMinusOne => u32::MAX,
-            _ => ALL_SLOTS,
+        let all = match self.has(Fault::ResetAllAsMinusOne) {
+            true => u32::MAX,
+            false => ALL_SLOTS,
         };
+        driver.spoiled &= !self.has(Fault::SpoiledPacketTold);
+        driver.overlong &= !self.has(Fault::OverlongPacketTold);
         match (record.kind, record.code) {
             (EV_SYN, SYN_REPORT) => driver.report(),
             (EV_SYN, SYN_DROPPED) => driver.drop_events(),

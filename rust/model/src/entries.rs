@@ -9,6 +9,7 @@ pub const KNOWN_ENTRY: usize = 68;
 
 const EVBITS: usize = 40;
 const ABSBITS: usize = 44;
+const RELBITS: usize = 52;
 const BTNBITS: usize = 56;
 
 const FIRST_BUTTON: u32 = 0x100;
@@ -31,7 +32,7 @@ impl Model {
         let code_is_offered = match event.kind {
             EV_SYN => event.code == SYN_MT_REPORT,
             EV_KEY => self.is_button_offered(entry, code),
-            EV_REL => code < 32,
+            EV_REL => code < 32 && (!self.has(Fault::RelbitsConsulted) || bit(entry, RELBITS, code)),
             EV_ABS => code < 64 && bit(entry, ABSBITS, code),
             _ => false,
         };
@@ -39,9 +40,9 @@ impl Model {
     }
 
     fn is_button_offered(self, entry: &[u8], code: u32) -> bool {
-        let first = match self.fault {
-            Fault::ButtonBitsFromZero => 0,
-            _ => FIRST_BUTTON,
+        let first = match self.has(Fault::ButtonBitsFromZero) {
+            true => 0,
+            false => FIRST_BUTTON,
         };
         match code.checked_sub(first) {
             Some(number) => number < BUTTONS && bit(entry, BTNBITS, number),

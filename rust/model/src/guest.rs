@@ -41,6 +41,9 @@ impl Model {
             index = (index + 1) % length;
         }
         put_word(area, READ_POINTER, index);
+        if self.has(Fault::CopyOutCountsLimit) {
+            count = limit;
+        }
         Copied { answer: DONE, count }
     }
 
@@ -52,9 +55,9 @@ impl Model {
         if slot >= geometry.slots() {
             return Err(BAD_SLOT);
         }
-        let begin = match self.fault {
-            Fault::EntriesSteppedAt68 => KNOWN_ENTRY * slot as usize,
-            _ => geometry.entry_at(slot),
+        let begin = match self.has(Fault::EntriesSteppedAt68) {
+            true => KNOWN_ENTRY * slot as usize,
+            false => geometry.entry_at(slot),
         };
         let entry = &page[begin..begin + KNOWN_ENTRY];
         if !is_present(entry) {

@@ -2,10 +2,10 @@
 
 use crate::answer::{BAD_SLOT, DONE, INVALID, MALFORMED};
 use crate::device::{Device, NO_SLOT};
-use crate::entries::is_present;
+use crate::entries::{is_present, KNOWN_ENTRY};
 use crate::geometry::Geometry;
 use crate::records::{put_records, Event, DEV_CONF, DEV_RESET, EV_DEV};
-use crate::Model;
+use crate::{Fault, Model};
 
 impl Model {
     /// Refusals in order: 1, 6, 9, and 10, 7 while on.
@@ -29,7 +29,11 @@ impl Model {
         }
         let refusal = self.tell(device, geometry, area, Event::new(EV_DEV, DEV_CONF, slot));
         if refusal == DONE {
-            page[geometry.entry_at(slot)..][..entry.len()].copy_from_slice(entry);
+            let stored = match self.has(Fault::EntryStoredTo68) {
+                true => &entry[..KNOWN_ENTRY],
+                false => entry,
+            };
+            page[geometry.entry_at(slot)..][..stored.len()].copy_from_slice(stored);
             device.taken |= 1 << slot;
         }
         refusal
@@ -47,7 +51,7 @@ impl Model {
         if refusal == DONE {
             page[geometry.entry_at(slot)..][..geometry.entry_size as usize].fill(0);
             device.taken &= !(1 << slot);
-            if device.current_slot == slot {
+            if device.current_slot == slot && !self.has(Fault::CurrentSlotAfterRemove) {
                 device.current_slot = NO_SLOT;
             }
         }

@@ -11,6 +11,7 @@ pub mod closing;
 pub mod device;
 pub mod driver;
 pub mod entries;
+mod fault;
 pub mod geometry;
 pub mod guest;
 pub mod hotplug;
@@ -20,25 +21,17 @@ pub mod ring;
 pub mod ring_event;
 pub mod settings;
 
-/// The wrong builds that a comparison has to catch.
-#[derive(Clone, Copy, Debug, Default, PartialEq, Eq)]
-pub enum Fault {
-    #[default]
-    None,
-    /// Unread is w - r without the modulus.
-    UnreadWithoutModulus,
-    /// The driver steps through entries at 68 bytes, whatever their size is.
-    EntriesSteppedAt68,
-    /// A packet is written event by event until the ring is full.
-    PacketEventByEvent,
-    /// The driver reads a DEV_RESET of all as -1.
-    ResetAllAsMinusOne,
-    /// Button bits are counted from code 0.
-    ButtonBitsFromZero,
-}
+pub use fault::Fault;
 
 /// The rules of the papers, or one of the wrong builds. Every call is a method of it.
 #[derive(Clone, Copy, Debug, Default)]
 pub struct Model {
     pub fault: Fault,
+}
+
+impl Model {
+    /// Whether this is the wrong build with that fault.
+    pub(crate) fn has(self, fault: Fault) -> bool {
+        self.fault == fault
+    }
 }

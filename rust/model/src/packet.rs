@@ -32,21 +32,6 @@ pub fn events_of(bytes: &[u8]) -> Vec<Event> {
         .collect()
 }
 
-/// All records of a packet: what was lost, the slot, the events, the report.
-fn records_of(device: &Device, slot: u32, events: &[Event]) -> Vec<Event> {
-    let report = Event::new(EV_SYN, SYN_REPORT, 0);
-    let mut records = Vec::new();
-    if device.lost {
-        records.extend([Event::new(EV_SYN, SYN_DROPPED, 0), report]);
-    }
-    if device.current_slot != slot {
-        records.push(Event::new(EV_DEV, DEV_SET, slot));
-    }
-    records.extend(events);
-    records.push(report);
-    records
-}
-
 impl Model {
     /// The packet is a slot's events as bytes. Refusals in order: 1, 5, 6, 9, 8, 10, 7. The last two set the lost mark.
     pub fn put_packet(
@@ -64,11 +49,16 @@ impl Model {
         if !device.on {
             return DEVICE_OFF;
         }
+        let events = events_of(packet);
+        let most = MOST_EVENTS + usize::from(self.has(Fault::PacketOf33Events));
+        let malformed = events.is_empty() || events.len() > most;
+        if malformed && self.has(Fault::MalformedBeforeSlot) {
+            return MALFORMED;
+        }
         if !device.has_taken(slot) {
             return BAD_SLOT;
         }
-        let events = events_of(packet);
-        if events.is_empty() || events.len() > MOST_EVENTS {
+        if malformed {
             return MALFORMED;
         }
         let entry = &page[geometry.entry_at(slot)..];
@@ -79,21 +69,36 @@ impl Model {
     }
 
     fn put_offered(self, device: &mut Device, geometry: Geometry, area: &mut [u8], slot: u32, events: &[Event]) -> u8 {
-        let records = records_of(device, slot, events);
+        let records = self.records_of(device, slot, events);
         let refusal = self.room_refusal(device, geometry, area, records.len());
-        if refusal == NO_ROOM && self.fault == Fault::PacketEventByEvent {
+        if refusal == NO_ROOM && self.has(Fault::PacketEventByEvent) {
             let room = self.room(device, geometry, word(area, READ_POINTER)) as usize;
             put_records(device, geometry, area, &records[..room]);
         }
         if refusal == BAD_INDEX || refusal == NO_ROOM {
-            device.lost = true;
+            device.lost |= refusal == NO_ROOM || !self.has(Fault::LostMarkNotSetAt10);
             return refusal;
         }
         put_records(device, geometry, area, &records);
-        device.lost = false;
+        device.lost &= self.has(Fault::GapShownTwice);
         device.current_slot = slot;
-        device.isr |= device.interrupts;
+        device.isr |= device.interrupts || self.has(Fault::IsrWithoutInterrupts);
         DONE
+    }
+
+    /// All records of a packet: what was lost, the slot, the events, the report.
+    fn records_of(self, device: &Device, slot: u32, events: &[Event]) -> Vec<Event> {
+        let report = Event::new(EV_SYN, SYN_REPORT, 0);
+        let mut records = Vec::new();
+        if device.lost {
+            records.extend([Event::new(EV_SYN, SYN_DROPPED, 0), report]);
+        }
+        if device.current_slot != slot && !self.has(Fault::DevSetMissing) {
+            records.push(Event::new(EV_DEV, DEV_SET, slot));
+        }
+        records.extend(events);
+        records.push(report);
+        records
     }
 }
 

@@ -66,7 +66,7 @@ impl Model {
     /// How many records lie between two pointers, both below the ring's length.
     pub(crate) fn unread(self, geometry: Geometry, read: u32, write: u32) -> u32 {
         let length = geometry.ring_length();
-        if self.fault == Fault::UnreadWithoutModulus {
+        if self.has(Fault::UnreadWithoutModulus) {
             write.wrapping_sub(read)
         } else {
             (write + length - read) % length
@@ -87,8 +87,9 @@ impl Model {
 
     /// How many records fit. At most R - 1 are unread.
     pub(crate) fn room(self, device: &Device, geometry: Geometry, read: u32) -> u64 {
+        let most = geometry.ring_length() - u32::from(!self.has(Fault::RoomForAFullRing));
         let unread = self.unread(geometry, read, device.write_index);
-        u64::from(geometry.ring_length() - 1).saturating_sub(u64::from(unread))
+        u64::from(most).saturating_sub(u64::from(unread))
     }
 }
 

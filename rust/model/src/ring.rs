@@ -3,8 +3,8 @@
 use crate::answer::{BAD_INDEX, DONE, INVALID, MALFORMED, NOTHING_TO_READ, NO_ROOM};
 use crate::bytes::{put_word, word};
 use crate::geometry::PAGE;
-use crate::ring_event::{event_of, is_contact_limit, Taken, RING_EVENT};
-use crate::Model;
+use crate::ring_event::{is_contact_limit, Taken, RING_EVENT};
+use crate::{Fault, Model};
 
 const IN_CONS: usize = 0;
 const IN_PROD: usize = 4;
@@ -13,27 +13,25 @@ const FIRST_EVENT: usize = 1024;
 /// How many events the ring holds.
 pub const RING_PLACES: u32 = 51;
 
-/// Where an index's event begins. Indices are free-running counts.
-fn event_at(index: u32) -> usize {
-    FIRST_EVENT + RING_EVENT * (index % RING_PLACES) as usize
-}
-
 impl Model {
     /// The back end's put. Refusals in order: 1, 9, 10, 7.
     pub fn ring_put(self, page: &mut [u8], in_prod: &mut u32, limit: u32, event: &[u8]) -> u8 {
         if page.len() != PAGE || event.len() != RING_EVENT || !is_contact_limit(limit) {
             return INVALID;
         }
-        let taken = event_of(event, limit);
+        let taken = self.event_of(event, limit);
         if taken.answer != DONE || taken.event.kind == 0 {
             return MALFORMED;
         }
         match in_prod.wrapping_sub(word(page, IN_CONS)) {
             distance if distance > RING_PLACES => return BAD_INDEX,
-            RING_PLACES => return NO_ROOM,
+            RING_PLACES => {
+                *in_prod = in_prod.wrapping_add(u32::from(self.has(Fault::RingIndexMovedAtRefusal)));
+                return NO_ROOM;
+            }
             _ => {}
         }
-        page[event_at(*in_prod)..][..RING_EVENT].copy_from_slice(event);
+        page[self.event_at(*in_prod)..][..RING_EVENT].copy_from_slice(event);
         *in_prod = in_prod.wrapping_add(1);
         put_word(page, IN_PROD, *in_prod);
         DONE
@@ -49,10 +47,16 @@ impl Model {
             0 => return Taken::refused(NOTHING_TO_READ),
             _ => {}
         }
-        let taken = event_of(&page[event_at(*in_cons)..][..RING_EVENT], limit);
+        let taken = self.event_of(&page[self.event_at(*in_cons)..][..RING_EVENT], limit);
         *in_cons = in_cons.wrapping_add(1);
         put_word(page, IN_CONS, *in_cons);
         taken
+    }
+
+    /// Where an index's event begins. Indices are free-running counts.
+    fn event_at(self, index: u32) -> usize {
+        let places = RING_PLACES - u32::from(self.has(Fault::RingPlaceModulo50));
+        FIRST_EVENT + RING_EVENT * (index % places) as usize
     }
 }
 
@@ -69,8 +73,8 @@ mod tests {
 
     #[test]
     fn places_of_the_paper() {
-        assert_eq!(event_at(u32::MAX), 1024);
-        assert_eq!(event_at(50), 3024);
+        assert_eq!(Model::default().event_at(u32::MAX), 1024);
+        assert_eq!(Model::default().event_at(50), 3024);
     }
 
     #[test]

@@ -2,7 +2,7 @@
 
 use crate::answer::{DONE, INVALID, MALFORMED};
 use crate::bytes::{half_word, put_half_word, put_word, word};
-use crate::Model;
+use crate::{Fault, Model};
 
 /// Bytes of an event.
 pub const RING_EVENT: usize = 40;
@@ -142,18 +142,6 @@ pub(crate) fn is_contact_limit(limit: u32) -> bool {
     (1..=32).contains(&limit)
 }
 
-/// The event of 40 bytes under a right limit: unknown, malformed, or its numbers. Reserved bytes are those that the numbers don't give.
-pub(crate) fn event_of(bytes: &[u8], limit: u32) -> Taken {
-    if !is_known(bytes[0], bytes[1]) {
-        return Taken::refused(DONE);
-    }
-    let event = numbers_of(bytes);
-    if bytes_of(&event) != bytes || u32::from(event.contact) >= limit {
-        return Taken::refused(MALFORMED);
-    }
-    Taken { answer: DONE, event }
-}
-
 impl Model {
     /// Refusals in order: 1 where `out` isn't 40 bytes long, 9 for an unknown event.
     pub fn encode(self, event: &RingNumbers, out: &mut [u8]) -> u8 {
@@ -172,7 +160,24 @@ impl Model {
         if bytes.len() != RING_EVENT || !is_contact_limit(limit) {
             return Taken::refused(INVALID);
         }
-        event_of(bytes, limit)
+        self.event_of(bytes, limit)
+    }
+
+    /// The event of 40 bytes under a right limit: unknown, malformed, or its numbers. Reserved bytes are those that the numbers don't give.
+    pub(crate) fn event_of(self, bytes: &[u8], limit: u32) -> Taken {
+        if !is_known(bytes[0], bytes[1]) {
+            return Taken::refused(DONE);
+        }
+        let mut bytes = bytes.to_vec();
+        if bytes[0] == KEY && self.has(Fault::PressedAboveOne) {
+            bytes[1] = bytes[1].min(1);
+        }
+        let limit = limit + u32::from(self.has(Fault::ContactAtLimit));
+        let event = numbers_of(&bytes);
+        if bytes_of(&event) != *bytes || u32::from(event.contact) >= limit {
+            return Taken::refused(MALFORMED);
+        }
+        Taken { answer: DONE, event }
     }
 }
 

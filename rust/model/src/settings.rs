@@ -1,7 +1,7 @@
 //! Node settings: one node, a name and a value.
 
 use crate::answer::{BAD_SETTING, DONE};
-use crate::Model;
+use crate::{Fault, Model};
 
 /// A number that a node gave, or not yet.
 #[derive(Clone, Copy, Debug, Default, PartialEq, Eq)]
@@ -59,43 +59,44 @@ impl Settings {
     }
 }
 
-fn flag_of(text: &[u8]) -> Option<bool> {
-    match text {
-        b"0" => Some(false),
-        b"1" => Some(true),
-        _ => None,
-    }
-}
-
-/// 1 to 10 digits, no sign, no leading zero but "0", at most 4294967295.
-pub fn number_of(text: &[u8]) -> Option<u32> {
-    let right_length = (1..=10).contains(&text.len());
-    let leading_zero = text.len() > 1 && text[0] == b'0';
-    if !right_length || leading_zero || !text.iter().all(u8::is_ascii_digit) {
-        return None;
-    }
-    let number = text
-        .iter()
-        .fold(0u64, |number, digit| number * 10 + u64::from(digit - b'0'));
-    u32::try_from(number).ok()
-}
-
 impl Model {
     /// A name that isn't meant is ignored; one given again replaces. A bad value is 12.
     pub fn node(self, settings: &mut Settings, name: &[u8], value: &[u8]) -> u8 {
         if let Some(flag) = settings.flag(name) {
-            let Some(given) = flag_of(value) else {
+            let Some(given) = self.flag_of(value) else {
                 return BAD_SETTING;
             };
             *flag = given;
         }
         if let Some(parameter) = settings.parameter(name) {
-            let Some(value) = number_of(value) else {
+            let Some(value) = self.number_of(value) else {
                 return BAD_SETTING;
             };
             *parameter = Parameter { given: true, value };
         }
         DONE
+    }
+
+    fn flag_of(self, text: &[u8]) -> Option<bool> {
+        match text {
+            b"0" => Some(false),
+            b"1" => Some(true),
+            b"2" if self.has(Fault::FlagOfTwo) => Some(true),
+            _ => None,
+        }
+    }
+
+    /// 1 to 10 digits, no sign, no leading zero but "0", at most 4294967295.
+    fn number_of(self, text: &[u8]) -> Option<u32> {
+        let right_length = (1..=10).contains(&text.len());
+        let leading_zero = text.len() > 1 && text[0] == b'0' && !self.has(Fault::LeadingZero);
+        if !right_length || leading_zero || !text.iter().all(u8::is_ascii_digit) {
+            return None;
+        }
+        let number = text
+            .iter()
+            .fold(0u64, |number, digit| number * 10 + u64::from(digit - b'0'));
+        u32::try_from(number).ok()
     }
 }
 
@@ -105,8 +106,8 @@ mod tests {
 
     #[test]
     fn numbers_of_the_paper() {
-        assert_eq!(number_of(b"4294967295"), Some(u32::MAX));
-        assert_eq!(number_of(b"0"), Some(0));
+        assert_eq!(Model::default().number_of(b"4294967295"), Some(u32::MAX));
+        assert_eq!(Model::default().number_of(b"0"), Some(0));
         for text in [
             "4294967296",
             "01",
@@ -119,7 +120,7 @@ mod tests {
             "10000000000",
             "1a",
         ] {
-            assert_eq!(number_of(text.as_bytes()), None, "{text:?}");
+            assert_eq!(Model::default().number_of(text.as_bytes()), None, "{text:?}");
         }
     }
 
