@@ -11,9 +11,9 @@ usage: differential [--delivery] [--calls N] [--seed S]
 Makes random lists of calls on the proved library and on the model, and compares answers, states and
 every byte of every buffer after each call.
 
-  --delivery  hold the library to what it promises of whole lists instead: what was sent is received,
-              whole and in order, with a gap where a packet was refused for room. The lists have to show
-              packets, gaps, an empty ring and events of the keyboard ring
+  --delivery  hold the library instead to what it promises of whole lists from a switch-on: what was
+              sent is received, whole and in order, with a gap where a packet was refused for room. The
+              lists have to show packets, gaps, an empty ring and events of the keyboard ring
   --calls N   make at least N calls (default 1000000)
   --seed S    make the lists of this seed again (default: from the clock)
 
