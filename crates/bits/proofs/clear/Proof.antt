@@ -1,3 +1,4 @@
+-- A bit that is set weighs no more than the whole mask, so the subtraction doesn't go below zero.
 use native.Mathlib.Omega.{arith}
 use Rattle.bits.proofs.Laws.{clear-fits}
 use borrow.Author.Needs.{needs}

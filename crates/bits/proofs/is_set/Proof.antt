@@ -1,3 +1,4 @@
+-- A mask below 2^64 has no bit from 64 on, which settles any larger index; below that the shift is the definition's division.
 use mathlib.Core.Path.{refl}
 use Rattle.bits.specs.Bits.{bit}
 use native.Mathlib.Omega.{arith}

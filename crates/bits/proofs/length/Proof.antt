@@ -1,3 +1,4 @@
+-- The kit's law of leading zeros gives a length with both its bounds, and that length is 64 less the zeros.
 use Prim.Native.Nat.{_-_}
 use mathlib.Core.Path.{_≡_}
 use native.Mathlib.Omega.{arith}

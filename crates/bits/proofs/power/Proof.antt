@@ -1,3 +1,4 @@
+-- One shifted by less than 64 places is below 2^64, so nothing of it is cut off.
 use lib.Pow.{pow-lt}
 use native.Mathlib.Nat.{one-mul, mod-eq-of-lt}
 use borrow.Author.Needs.{needs}

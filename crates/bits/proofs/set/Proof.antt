@@ -1,3 +1,4 @@
+-- Adding a power whose bit was clear carries nothing further, so a mask below 2^64 stays below it.
 use native.Mathlib.Omega.{arith}
 use Rattle.bits.proofs.Laws.{set-below}
 use borrow.Author.Needs.{needs}

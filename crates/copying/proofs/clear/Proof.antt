@@ -1,3 +1,4 @@
+-- Invariant: zeros up to i and the old bytes from there on. At the end nothing old remains.
 use Prim.Native.Nat.{ℕ, _-_, _≤_}
 use mathlib.Core.Path.{_≡_, refl, ap, _∙_}
 use mathlib.Core.List.{List, [], _++_, append-nil}

@@ -1,3 +1,4 @@
+-- Invariant: once the rest of the source is put at at + i, the buffer is as wanted. At the end there is no rest.
 use Prim.Native.Nat.{_+_, _-_, _≤_}
 use native.Mathlib.Omega.{arith}
 use lib.ListN.{length, drop}

@@ -1,3 +1,4 @@
+-- Two stretches of four that touch are one of eight, and the halves that were read make up the source.
 use Prim.Native.Nat.{ℕ, _+_}
 use mathlib.Core.Path.{ap, _∙_}
 use mathlib.Core.List.{List}

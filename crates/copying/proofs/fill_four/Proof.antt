@@ -1,3 +1,4 @@
+-- Four stores into a stretch of four leave nothing of what it held before.
 use Rattle.copying.specs.Copying.{fourBytes}
 use Rattle.copying.proofs.Laws.Overwrite.{all-stored}
 use borrow.Author.Needs.{needs}

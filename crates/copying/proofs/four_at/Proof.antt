@@ -1,3 +1,4 @@
+-- Bytes at four neighbouring places are the list with the front cut off and the next four kept.
 use Rattle.copying.proofs.Laws.Part.{four-bytes}
 use borrow.Author.Needs.{needs}
 use Rattle.copying.proofs.four_at.Statement.{statement}

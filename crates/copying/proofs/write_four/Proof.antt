@@ -1,3 +1,4 @@
+-- A part of the buffer is lent; what it is filled with replaces just that stretch.
 use Rattle.copying.proofs.Laws.Overwrite.{lent}
 use borrow.Author.Needs.{needs}
 use Rattle.copying.proofs.write_four.Statement.{statement}

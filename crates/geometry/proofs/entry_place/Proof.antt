@@ -1,3 +1,4 @@
+-- Both factors are of 32 bits, so their product fits into 64.
 use native.Mathlib.Omega.{arith}
 use Rattle.geometry.proofs.Laws.Products.{product-fits}
 use borrow.Author.Needs.{needs}

@@ -1,3 +1,4 @@
+-- So many entries end within the page exactly if the division gives as many slots; the product of two 32-bit numbers fits.
 use native.Mathlib.Omega.{arith}
 use Rattle.geometry.proofs.Laws.Allowed.{sizes}
 use Rattle.geometry.proofs.Laws.Products.{product-fits}

@@ -1,3 +1,4 @@
+-- The conjunction's last two parts are tested in the other order: what is false makes it false from either side.
 use Rattle.geometry.specs.Geometry.{isRecordSize, allowed}
 use mathlib.Core.Path.{_≡_, refl, sym, _∙_}
 use mathlib.Core.Bool.{Bool, true, false, _&&_}

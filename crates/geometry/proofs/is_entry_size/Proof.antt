@@ -1,3 +1,4 @@
+-- Below 68 and above 256 the conjunction is false; between them its last part, the remainder by 4, is the code's own test.
 use Rattle.geometry.specs.Geometry.{isEntrySize}
 use borrow.Author.Tests.{le-leb, lt-leb}
 use Rattle.geometry.proofs.is_entry_size.Statement.{statement}

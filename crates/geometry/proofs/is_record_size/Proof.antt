@@ -1,3 +1,4 @@
+-- From 8 to 64 just the powers of two share no bit with the number below them, and outside the definition is false.
 use native.Mathlib.Omega.{arith}
 use Rattle.geometry.proofs.Laws.Powers.{too-small, too-large, powers}
 use Rattle.geometry.proofs.is_record_size.Statement.{statement}

@@ -1,3 +1,4 @@
+-- A slot's entry ends within the page exactly if the slot is below the quotient: no division is needed to tell.
 use native.Mathlib.Omega.{arith}
 use borrow.Author.Needs.{needs}
 use Rattle.geometry.proofs.Laws.Allowed.{sizes}

@@ -1,3 +1,4 @@
+-- The index plus one is at most 2^32, so its product with a 32-bit record size fits into 64 bits.
 use native.Mathlib.Omega.{arith}
 use Rattle.geometry.proofs.Laws.Products.{product-fits}
 use borrow.Author.Needs.{needs}

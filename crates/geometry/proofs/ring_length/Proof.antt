@@ -1,3 +1,4 @@
+-- A record size is 2 to the number of its trailing zeros, so the shift is the division; an area holds at least two records.
 use Rattle.geometry.proofs.Laws.Allowed.{record-power, ring-some}
 use borrow.Author.Needs.{needs}
 use Rattle.geometry.proofs.ring_length.Statement.{statement}

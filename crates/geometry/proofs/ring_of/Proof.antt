@@ -1,3 +1,4 @@
+-- An allowed geometry has what ring_length asks for; the record size is taken over as it is.
 use Rattle.geometry.proofs.Laws.Allowed.{sizes}
 use Rattle.geometry.proofs.ring_of.Statement.{statement}
 use Rattle.geometry.proofs.ring_of.Tie as tie

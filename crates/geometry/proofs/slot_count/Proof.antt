@@ -1,3 +1,4 @@
+-- An allowed entry size is at least 68, so it is no division by zero.
 use native.Mathlib.Omega.{arith}
 use Rattle.geometry.proofs.Laws.Allowed.{sizes}
 use borrow.Author.Needs.{needs}

@@ -1,3 +1,4 @@
+-- The lower half is the number itself; a pattern of the upper half is counted down from -1, and each step stays within 16 bits.
 use mir.Syntax.{w16}
 use Rattle.signed.proofs.Laws.{UpperHalf, upper-half}
 use borrow.Author.Needs.{needs}

@@ -1,3 +1,4 @@
+-- A negative number is counted down from the highest pattern of 16 bits, and the others are their own pattern.
 use mir.Syntax.{w16}
 use Rattle.signed.proofs.Laws.{Negative, NotNegative, negative, not-negative}
 use Rattle.signed.proofs.i16_to_bits.Statement.{statement}

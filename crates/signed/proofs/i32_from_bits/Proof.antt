@@ -1,3 +1,4 @@
+-- As for 16 bits, by the same law at another width: the upper half is counted down from -1.
 use mir.Syntax.{w32}
 use Rattle.signed.proofs.Laws.{UpperHalf, upper-half}
 use borrow.Author.Needs.{needs}

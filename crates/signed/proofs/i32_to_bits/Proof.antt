@@ -1,3 +1,4 @@
+-- Both signs by the laws that serve 16 bits, at width 32: below zero the pattern is 2^32 - 1 less the distance from -1.
 use mir.Syntax.{w32}
 use Rattle.signed.proofs.Laws.{Negative, NotNegative, negative, not-negative}
 use Rattle.signed.proofs.i32_to_bits.Statement.{statement}

@@ -1,3 +1,4 @@
+-- A value at or above one bound is above all smaller ones, so arithmetic settles every test of the definition.
 use native.Mathlib.Omega.{arith}
 use borrow.Author.Tests.{le-ltb, lt-ltb}
 use Rattle.text.specs.Text.{digitCount}

@@ -1,3 +1,4 @@
+-- The digits stored are as many as the number takes, so they are its decimal text, which ends at that count.
 use native.Mathlib.Omega.{arith}
 use borrow.Author.Needs.{needs}
 use Rattle.text.specs.Text.{digitCount}

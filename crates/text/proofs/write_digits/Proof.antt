@@ -1,3 +1,4 @@
+-- Invariant: once the `left` digits of `rest` are put at `at`, the number stands there whole. Each turn stores the last of them.
 use Prim.Native.Nat.{_≤_}
 use native.Mathlib.Omega.{arith}
 use borrow.Author.Needs.{needs}

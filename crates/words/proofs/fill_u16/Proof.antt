@@ -1,3 +1,4 @@
+-- Two stores into a stretch of two bytes: nothing of the old bytes is left.
 use Rattle.words.specs.Words.{u16Bytes}
 use Rattle.copying.proofs.Laws.Overwrite.{all-stored}
 use borrow.Author.Needs.{needs}

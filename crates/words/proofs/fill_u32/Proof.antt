@@ -1,3 +1,4 @@
+-- Every one of the four bytes is stored, so the stretch is the list of what was stored.
 use Rattle.words.specs.Words.{u32Bytes}
 use Rattle.copying.proofs.Laws.Overwrite.{all-stored}
 use borrow.Author.Needs.{needs}

@@ -1,3 +1,4 @@
+-- Two bytes are lent to fill_u16; a lent part that is filled is an overwrite at its place.
 use Rattle.copying.proofs.Laws.Overwrite.{lent}
 use borrow.Author.Needs.{needs}
 use Rattle.words.proofs.write_u16.Statement.{statement}

@@ -1,3 +1,4 @@
+-- As for 16 bits, with a part of four bytes: what fill_u32 leaves in it overwrites the buffer there.
 use Rattle.copying.proofs.Laws.Overwrite.{lent}
 use borrow.Author.Needs.{needs}
 use Rattle.words.proofs.write_u32.Statement.{statement}
