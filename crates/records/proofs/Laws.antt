@@ -1,3 +1,4 @@
+-- By subject: indices, events as bytes, places, puts, unread records, and bytes that no driver knows.
 pub mod Index
 pub mod Event
 pub mod Events

@@ -1,3 +1,4 @@
+-- A return stands where a row of the table of refusals holds: the tests passed make the rows above it false, its own makes it true.
 use mathlib.Core.Path.{sym, _∙_}
 use borrow.Author.Tests.{not-true, not-false, eq-eqb, le-leb, lt-leb, ne-eqb}
 use Rattle.answers.specs.Refusals.{firstRefusal}

@@ -1,3 +1,4 @@
+-- Each bound that is tested cuts the BAR once: below the area the table answers, behind its end there is only the entry page.
 use Rattle.access.specs.Place.{placeOf}
 use borrow.Author.Tests.{eq-eqb, le-ltb, lt-ltb, ne-eqb}
 use borrow.Author.Needs.{needs}

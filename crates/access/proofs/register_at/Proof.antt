@@ -1,3 +1,4 @@
+-- Each arm's key computes the table down to its own row; in the default arm the offset differs from all nine keys.
 use Rattle.access.specs.Place.{placeIn}
 use borrow.Author.Tests.{ne-eqb}
 use Rattle.access.proofs.register_at.Statement.{statement}

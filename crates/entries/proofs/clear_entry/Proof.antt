@@ -1,3 +1,4 @@
+-- As many zeros as the slot's own stretch has bytes: it lies in the page since the slot is in range.
 use Prim.Native.Nat.{_+_, _≤_}
 use lib.ListN.{length}
 use native.Mathlib.Omega.{arith}

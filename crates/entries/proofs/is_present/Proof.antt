@@ -1,3 +1,4 @@
+-- Bit 0 of the word at byte 40: the two contracts put one into the other are the definition.
 use borrow.Author.Needs.{needs}
 use Rattle.entries.proofs.is_present.Statement.{statement}
 use Rattle.entries.proofs.is_present.Tie as tie

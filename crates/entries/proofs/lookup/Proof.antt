@@ -1,3 +1,4 @@
+-- lookup_refusal has decided; where it refuses nothing the slot is in range, so its 68 bytes lie in the page.
 use Prim.Native.Nat.{_+_, _≤_}
 use lib.ListN.{length}
 use native.Mathlib.Omega.{arith}

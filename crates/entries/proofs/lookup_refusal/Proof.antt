@@ -1,3 +1,4 @@
+-- The first three tests passed say that the entry's known bytes lie in the page, so the fourth may read them.
 use Prim.Native.Nat.{_+_, _≤_}
 use mathlib.Core.Bool.{true}
 use lib.ListN.{length}

@@ -1,3 +1,4 @@
+-- The stretch lent is the slot's own, which lies in the page since the slot is in range; a copy over all of it is the entry.
 use Prim.Native.Nat.{_+_, _≤_}
 use lib.ListN.{length}
 use native.Mathlib.Omega.{arith}

@@ -1,3 +1,4 @@
+-- Three words at 0, 2 and 4 from the place: each read is a field by definition.
 use Rattle.records.specs.Event.{eventAt}
 use borrow.Author.Needs.{needs}
 use Rattle.records.proofs.decode.Statement.{statement}

@@ -1,3 +1,4 @@
+-- Words of 2, 2 and 4 bytes, side by side, fill a stretch of eight whole.
 use Rattle.records.proofs.Laws.Event.{fields-written}
 use borrow.Author.Needs.{needs}
 use Rattle.records.proofs.encode.Statement.{statement}

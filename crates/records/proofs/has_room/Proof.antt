@@ -1,3 +1,4 @@
+-- The unread records are fewer than the ring's, so both subtractions are safe, and what they leave is the room of the definition.
 use native.Mathlib.Omega.{arith}
 use Rattle.records.proofs.Laws.Index.{unread-below, room}
 use borrow.Author.Needs.{needs}

@@ -1,3 +1,4 @@
+-- An index plus one is either the ring's length, where the remainder is 0, or below it, where it is its own remainder.
 use Rattle.records.proofs.Laws.Index.{next-turns, next-follows}
 use borrow.Author.Needs.{needs}
 use Rattle.records.proofs.next_index.Statement.{statement}

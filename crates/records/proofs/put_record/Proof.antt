@@ -1,4 +1,4 @@
--- The record's stretch lies in the area, so it can be lent; what the four calls leave, one after the other, is a record put.
+-- The record's eight bytes are lent as a part, which lies in the area; then the write pointer is stored: the definition's two writes.
 use Prim.Native.Nat.{_+_, _≤_}
 use lib.ListN.{length}
 use native.Mathlib.Omega.{arith}

@@ -1,3 +1,4 @@
+-- An index below the ring's length is its own remainder, and its record lies in the area.
 use native.Mathlib.Nat.{mod-eq-of-lt}
 use native.Mathlib.Omega.{arith}
 use Rattle.records.proofs.Laws.Place.{place-inside}

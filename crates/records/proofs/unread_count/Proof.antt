@@ -1,3 +1,4 @@
+-- Up to a write index ahead it is a difference; round the ring's end it is the records up to the end and those from its start on.
 use Rattle.records.proofs.Laws.Index.{unread-straight, unread-round}
 use borrow.Author.Needs.{needs}
 use Rattle.records.proofs.unread_count.Statement.{statement}

@@ -1,3 +1,4 @@
+-- The code is asked before the type's bit, as in the definition: a code that isn't offered settles the conjunction.
 use mathlib.Core.Path.{sym, _∙_}
 use borrow.Author.Tests.{not-true, not-false}
 use Rattle.entries.specs.Offer.{isOffered}

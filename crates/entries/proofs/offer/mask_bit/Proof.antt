@@ -1,3 +1,4 @@
+-- Word index / 32 of the mask, bit index % 32 of it: what is_set says of the word that read_u32 gives.
 use borrow.Author.Needs.{needs}
 use Rattle.entries.proofs.offer.mask_bit.Statement.{statement}
 use Rattle.entries.proofs.offer.mask_bit.Tie as tie

@@ -1,3 +1,4 @@
+-- 64 bits stand in two words, so the bound on the code is all that keeps the word inside the entry.
 use borrow.Author.Tests.{le-ltb, lt-ltb}
 use borrow.Author.Needs.{needs}
 use Rattle.entries.proofs.offer.offers_absolute.Statement.{statement}

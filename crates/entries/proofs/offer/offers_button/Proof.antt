@@ -1,3 +1,4 @@
+-- Both bounds hold where the mask is read, so its index, the code less 0x100, is below 96 and lies in the three words.
 use borrow.Author.Tests.{le-leb, lt-leb}
 use borrow.Author.Needs.{needs}
 use Rattle.entries.proofs.offer.offers_button.Statement.{statement}

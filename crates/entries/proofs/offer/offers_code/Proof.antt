@@ -1,3 +1,4 @@
+-- Each type's arm reduces the definition to what is asked of the code; a type that is none of the four offers nothing.
 use Rattle.entries.specs.Offer.{offersCode}
 use borrow.Author.Tests.{ne-eqb}
 use borrow.Author.Needs.{needs}
