@@ -1,3 +1,4 @@
+-- A law for each way out: invalid, refused, copied. At most the unread records are copied, and they are fewer than the ring's.
 use Prim.Native.Nat.{_<_}
 use mathlib.Core.Path.{_≡_, sym, _∙_}
 use mathlib.Core.Bool.{true}

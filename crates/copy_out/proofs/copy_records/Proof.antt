@@ -1,3 +1,4 @@
+-- Either no record lies past the ring's end, so one run copies all; or a second run goes on at the ring's start, where the first ends.
 use native.Mathlib.Omega.{arith}
 use Rattle.copy_out.proofs.Laws.CopyOut.{one-run, two-runs, both-copied}
 use borrow.Author.Needs.{needs}

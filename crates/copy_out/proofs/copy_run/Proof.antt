@@ -1,3 +1,4 @@
+-- Invariant: once the records left are put at the current byte, the output is as wanted; places step by the record size.
 use native.Mathlib.Omega.{arith}
 use borrow.Author.Needs.{needs}
 use Rattle.copy_out.proofs.Laws.CopyOut.{Turn, turn-begins, record-inside, turn-goes-on, turn-ends}

@@ -1,3 +1,4 @@
+-- The count is tested first; no slot, the unknown one and a slot in range are then the ways to be right, in the definition's order.
 use Rattle.driver.specs.Step.{isDriver}
 use borrow.Author.Tests.{eq-eqb, le-leb, lt-leb, ne-eqb}
 use borrow.Author.Needs.{needs}

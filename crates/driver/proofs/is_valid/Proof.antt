@@ -1,3 +1,4 @@
+-- Size of the area, size of the packet, state: a false one settles the conjunction, and a sized area has an allowed geometry.
 use mathlib.Core.Path.{sym, _∙_}
 use borrow.Author.Tests.{not-true, not-false, eq-eqb, ne-eqb}
 use borrow.Author.Needs.{needs}

@@ -1,3 +1,4 @@
+-- A refusal by the two pointers settles the definition's test; with none the read pointer is in the ring, so the record lies in the area.
 use mathlib.Core.Path.{sym, _∙_}
 use Rattle.reading.proofs.Laws.{possible}
 use Rattle.driver.proofs.Laws.Reader.{oldest-refused, oldest-read}

@@ -1,3 +1,4 @@
+-- A law for each way out: invalid, nothing to read, received. All need that the record read is the definition's oldest, proved once.
 use mathlib.Core.Path.{_≡_, sym, ap, _∙_}
 use mathlib.Core.Bool.{true}
 use lib.ListN.{length}

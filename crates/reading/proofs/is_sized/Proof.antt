@@ -1,3 +1,4 @@
+-- An allowed geometry or not settles the first half; the second is the comparison with what area_length gives.
 use borrow.Author.Tests.{not-true, not-false}
 use Rattle.reading.specs.Reading.{isSized}
 use mathlib.Core.Path.{sym, _∙_}

@@ -1,3 +1,4 @@
+-- The code asks whether the indices are equal before it tests the second: a write index equal to one in range is in range itself.
 use native.Mathlib.Omega.{arith}
 use Rattle.answers.specs.Refusals.{firstRefusal}
 use Rattle.reading.specs.Reading.{readingRefusal}

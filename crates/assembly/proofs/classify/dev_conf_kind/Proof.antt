@@ -1,3 +1,4 @@
+-- Only one thing is asked of the value, whether it is a slot, and is_slot's contract answers as the definition does.
 use mathlib.Core.Path.{sym, _∙_}
 use borrow.Author.Needs.{needs}
 use Rattle.assembly.proofs.classify.dev_conf_kind.Statement.{statement}

@@ -1,3 +1,4 @@
+-- A known code hands the value on to its own function; the default arm differs from all three codes, and is malformed by definition.
 use Rattle.assembly.specs.Kind.{devKind}
 use borrow.Author.Tests.{ne-eqb}
 use borrow.Author.Needs.{needs}

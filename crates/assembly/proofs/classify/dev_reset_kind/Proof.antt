@@ -1,3 +1,4 @@
+-- Slot, all slots, neither: 0xFFFF is asked about only once the value is known to be no slot, in the code as in the definition.
 use mathlib.Core.Path.{sym, _∙_}
 use borrow.Author.Tests.{eq-eqb, ne-eqb}
 use borrow.Author.Needs.{needs}

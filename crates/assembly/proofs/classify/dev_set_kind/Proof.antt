@@ -1,3 +1,4 @@
+-- Two tests lead to the same kind, a slot and the unknown source; a value that fails both is left as malformed.
 use mathlib.Core.Path.{sym, _∙_}
 use borrow.Author.Tests.{eq-eqb, ne-eqb}
 use borrow.Author.Needs.{needs}

@@ -1,3 +1,4 @@
+-- The type picks the branch: SYN and DEV by what their own functions ensure, and a type that is neither is an event as any other.
 use Rattle.assembly.specs.Kind.{kindOf}
 use borrow.Author.Tests.{ne-eqb}
 use borrow.Author.Needs.{needs}

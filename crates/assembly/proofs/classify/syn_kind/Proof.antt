@@ -1,3 +1,4 @@
+-- The code is one of two keys or differs from both, and each of these facts computes the definition's two tests.
 use borrow.Author.Tests.{ne-eqb}
 use Rattle.assembly.proofs.classify.syn_kind.Statement.{statement}
 use Rattle.assembly.proofs.classify.syn_kind.Tie as tie

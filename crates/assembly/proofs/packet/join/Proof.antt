@@ -1,3 +1,4 @@
+-- A law for each way out: ignored and full leave the buffer alone, and else eight bytes of it are lent to be filled with the event.
 use Prim.Native.Nat.{_*_}
 use mathlib.Core.Path.{sym}
 use Rattle.copying.proofs.Laws.Overwrite.{lent-part}

@@ -1,3 +1,4 @@
+-- Only the driver's own slot makes it move, and then move_to says where to; for another slot the definition's test is false.
 use Rattle.assembly.specs.Transition.{withoutSlot}
 use borrow.Author.Tests.{eq-eqb, ne-eqb}
 use borrow.Author.Needs.{needs}

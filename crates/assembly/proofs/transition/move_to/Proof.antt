@@ -1,3 +1,4 @@
+-- The driver that spoil gives back is the definition's; setting its slot afterwards is the rest of it.
 use borrow.Author.Needs.{needs}
 use Rattle.assembly.proofs.transition.move_to.Statement.{statement}
 use Rattle.assembly.proofs.transition.move_to.Tie as tie

@@ -1,3 +1,4 @@
+-- Eight kinds hold no more events than before, so one law keeps the buffer for all of them; the ninth writes, and join says what.
 use Prim.Native.Nat.{zero-le}
 use mathlib.Core.Path.{sym, _∙_}
 use native.Mathlib.Nat.{le-refl, le-of-eq}

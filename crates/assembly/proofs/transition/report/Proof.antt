@@ -1,3 +1,4 @@
+-- Ignoring, spoiled, overlong, empty: each test passed is false in the definition too, and a packet is what is left at the end.
 use Rattle.assembly.specs.Transition.{reported}
 use borrow.Author.Tests.{eq-eqb, ne-eqb}
 use Rattle.assembly.proofs.transition.report.Statement.{statement}

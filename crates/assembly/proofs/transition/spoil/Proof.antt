@@ -1,3 +1,4 @@
+-- Split on whether anything is held: an empty packet can't be spoiled, any other one is.
 use Rattle.assembly.specs.Transition.{spoiled}
 use borrow.Author.Tests.{eq-eqb, ne-eqb}
 use Rattle.assembly.proofs.transition.spoil.Statement.{statement}
