@@ -1,1 +1,2 @@
+-- One subject: two names compared.
 pub mod Same

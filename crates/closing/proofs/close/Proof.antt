@@ -1,3 +1,4 @@
+-- The lack that was found, or none, decides the definition's one case; each field of the record is then some function's answer.
 use mathlib.Core.Path.{sym, _∙_}
 use Rattle.closing.specs.Closing.{unlessLacking}
 use borrow.Author.Needs.{needs}

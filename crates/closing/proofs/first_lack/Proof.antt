@@ -1,3 +1,4 @@
+-- Each test passed rules out one more row of the table, which is stated once a row; a return adds the test that held.
 use mathlib.Core.Path.{sym, _∙_}
 use Rattle.closing.specs.Closing.{firstLack}
 use Rattle.closing.proofs.Laws.Tests.{RuledOut}

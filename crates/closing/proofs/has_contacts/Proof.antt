@@ -1,3 +1,4 @@
+-- The conjunction is computed from the left: given, then at least 1; the last comparison is what remains of it.
 use borrow.Author.Tests.{le-leb, lt-leb, not-true, not-false}
 use Rattle.closing.proofs.has_contacts.Statement.{statement}
 use Rattle.closing.proofs.has_contacts.Tie as tie

@@ -1,3 +1,4 @@
+-- Wanted on both sides, and absolute: three answers put together in the grouping of the definition.
 use mathlib.Core.Path.{_∙_}
 use borrow.Author.Needs.{needs}
 use Rattle.closing.proofs.is_raw.Statement.{statement}

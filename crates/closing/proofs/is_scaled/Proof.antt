@@ -1,3 +1,4 @@
+-- What absolute and raw are is known by their contracts, and one of them negated is all that the definition adds.
 use mathlib.Core.Path.{_∙_}
 use Rattle.closing.specs.Closing.{isScaled}
 use borrow.Author.Needs.{needs}

@@ -1,3 +1,4 @@
+-- A name that equals a row's computes the table; past the eight flags the table falls through to the numbers, by number_node.
 use mathlib.Core.Path.{refl, _∙_}
 use Rattle.node_names.specs.Names.{nodeOf, lookup, sameBytes}
 use Rattle.node_names.proofs.Laws.Same.{named, unlike}

@@ -1,3 +1,4 @@
+-- A name that equals a row's is replaced by it, and the table computes; past all five rows every test of the table is false.
 use mathlib.Core.Path.{refl}
 use Rattle.node_names.specs.Names.{numberNode, lookup, sameBytes}
 use Rattle.node_names.proofs.Laws.Same.{named, unlike}

@@ -1,3 +1,4 @@
+-- Invariant: the names are the same if what is left of both from i on is. Names of different lengths are settled before the loop.
 use Rattle.node_names.proofs.Laws.Same.{other-length, comparing-goes-on, differing, compared}
 use Rattle.node_names.specs.Names.{sameBytes}
 use borrow.Author.Needs.{needs}

@@ -1,3 +1,4 @@
+-- Invariant: the place is between the start and the text's end. It moves on by one, so the loop ends.
 use Prim.Native.Nat.{_-_, _≤_}
 use native.Mathlib.Omega.{arith}
 use lib.ListN.{length}

@@ -1,3 +1,4 @@
+-- No line ends before it begins, so each turn leaves less of the table: the line and the byte behind it are gone.
 use Prim.Native.Nat.{_-_}
 use lib.ListN.{length}
 use borrow.Author.Needs.{needs}
