@@ -1,3 +1,4 @@
+-- Each text begins where the last one ended; at most 510 lines of 33 bytes, a title and a last line fit into 20,480 bytes.
 use Rattle.records.specs.Ring.{Holds}
 use Rattle.geometry.specs.Geometry.{ringOf}
 use Rattle.capture.specs.Listing.{onePage}

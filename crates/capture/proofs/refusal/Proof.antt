@@ -1,3 +1,4 @@
+-- Length, read pointer, write pointer: three rows in this order, the last two about the very words that were read from the page.
 use Rattle.answers.specs.Refusals.{firstRefusal}
 use borrow.Author.Tests.{eq-eqb, le-leb, lt-leb, ne-eqb}
 use borrow.Author.Needs.{needs}

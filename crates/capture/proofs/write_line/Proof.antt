@@ -1,3 +1,4 @@
+-- The word, then the number with its newline: the second text begins where the first ends, so both are one text.
 use native.Mathlib.Omega.{arith}
 use Rattle.text.proofs.Laws.Written.{written-next}
 use Rattle.capture.specs.Listing.{numberLine}

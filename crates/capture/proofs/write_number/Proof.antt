@@ -1,3 +1,4 @@
+-- A number has at most ten digits, so there is room for what follows it; two texts that meet are one.
 use native.Mathlib.Omega.{arith}
 use Rattle.text.proofs.Laws.Written.{written-next}
 use Rattle.text.proofs.Laws.Digits.{decimal-length}

@@ -1,3 +1,4 @@
+-- Three numbers of at most ten digits with a byte behind each are 33 bytes; after each number that much less room is left.
 use native.Mathlib.Omega.{arith}
 use Rattle.capture.proofs.Laws.Lines.{number-length, record-written}
 use borrow.Author.Needs.{needs}

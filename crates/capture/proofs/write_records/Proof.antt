@@ -1,3 +1,4 @@
+-- Invariant: once the lines of the records left are put behind, all lines are there; and 33 bytes are free for each one left.
 use native.Mathlib.Omega.{arith}
 use Rattle.capture.proofs.Laws.Lines.{Turn, turn-begins, turn-goes-on, turn-ends}
 use Rattle.capture.proofs.write_records.Statement.{statement}

@@ -1,3 +1,4 @@
+-- The listing ends within its buffer, so what is written out is a prefix of the buffer, as long as the call said.
 use lib.Seq.{length-take-le}
 use mathlib.Core.Path.{sym}
 use borrow.Author.Needs.{needs}

@@ -1,3 +1,4 @@
+-- Invariant: the events left fit between the current byte and the buffer's end.
 use Prim.Native.Nat.{_+_, _*_, _≤_}
 use lib.ListN.{length}
 use borrow.Author.Needs.{needs}

@@ -1,3 +1,4 @@
+-- Invariant: the lent lengths stay; a step keeps both. At most 511 steps are made, so the loop ends.
 use mathlib.Core.Path.{_≡_}
 use lib.ListN.{length}
 use borrow.Author.Needs.{needs}

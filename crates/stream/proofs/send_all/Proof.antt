@@ -1,3 +1,4 @@
+-- Invariant: the lent lengths stay, and no more than a whole packet is held. Rows are counted up to 61.
 use mathlib.Core.Path.{_≡_}
 use Prim.Native.Nat.{_-_, _≤_}
 use lib.ListN.{length}

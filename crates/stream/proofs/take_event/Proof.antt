@@ -1,3 +1,4 @@
+-- What is held fits the packet, so the part that is sent has just that length; one event more keeps it at 256 bytes or fewer.
 use mathlib.Core.Path.{sym}
 use native.Mathlib.Omega.{arith}
 use lib.Seq.{length-take-le}
