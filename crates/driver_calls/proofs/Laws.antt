@@ -1,1 +1,2 @@
+-- One subject: what a lookup leaves in the output.
 pub mod Entry

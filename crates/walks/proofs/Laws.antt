@@ -1,3 +1,4 @@
+-- By subject: calling another function, the frame with its locals, a struct behind a borrow, and parameters by their kinds.
 pub mod Callee
 pub mod Frame
 pub mod Lent

@@ -1,3 +1,4 @@
+-- The variant that was matched computes the definition's four numbers.
 use mathlib.Core.Path.{_∙_}
 use borrow.Author.Needs.{needs}
 use Rattle.driver_calls.proofs.numbers.Statement.{statement}

@@ -1,3 +1,4 @@
+-- The step's own contract, with what it tells turned into numbers; the fourth fact that a step ensures isn't needed.
 use borrow.Author.Needs.{needs}
 use Rattle.driver_calls.proofs.step_rule.Statement.{statement}
 use Rattle.driver_calls.proofs.step_rule.Tie as tie

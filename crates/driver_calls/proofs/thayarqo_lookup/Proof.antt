@@ -1,3 +1,4 @@
+-- The output's length is tested here and the rest by lookup: it gives 68 bytes or none, and copying none changes nothing.
 use Rattle.driver_calls.proofs.Laws.Entry.{wrong-length, part-fits, copied}
 use borrow.Author.Needs.{needs}
 use Rattle.driver_calls.proofs.thayarqo_lookup.Statement.{statement}

@@ -1,6 +1,5 @@
--- `register_calls::thayarqo_write` meets its contract: a walk of its code by hand. The borrow of the device is opened, the record is read whole into a
--- local, and `write_rule` is called with it. The record that comes back is stored over the old one, and the borrow is closed at it.
--- All that the proof knows of `write_rule` is that it meets its contract, and nothing of the fields of Device.
+-- A walk of the code by hand: the device's record is taken out of its borrow whole, goes through `write_rule`, and what comes back is
+-- stored in its place before the borrow is closed. Of `write_rule` only its contract is used, and of Device no field.
 use mathlib.Core.Path.{_≡_, refl, ap}
 use mathlib.Core.List.{List, [], _∷_}
 use lib.ListN.{length}
