@@ -24,7 +24,13 @@ same-length : tie.Need-same-length
 same-length c = search needs
 
 returns : tie.Need-returns
-returns c = (one-run (c .before .before .before .before .before .before .before .before .args .ring) (c .before .before .before .before .before .before .before .before .args .area .now) (c .before .before .before .before .before .before .before .before .pre .0) (c .before .before .before .before .before .before .before .before .args .first) (c .before .before .before .before .before .before .before .before .args .count) (c .before .before .before .before .before .before .before .before .args .out .now) (c .before .before .before .before .before .before .before .before .pre .1 .0) (omega (arith, c .before .before .before .before .if1 .taken, c .before .before .before .before .before .before .before .before .pre)), c .before .before .copy-run .ensures)
+returns c =
+    let came = c .before .before .before .before in
+    let s = came .before .before .before .before in (
+      one-run (s .args .ring) (s .args .area .now) (s .pre .0) (s .args .first) (s .args .count) (s .args .out .now) (s .pre .1 .0)
+          (omega (arith, came .if1 .taken, s .pre)),
+      c .before .before .copy-run .ensures,
+    )
 
 copy-run-requires-2 : tie.Need-copy-run-requires-2
 copy-run-requires-2 c κs = search needs
@@ -58,8 +64,15 @@ same-length-2 c = search needs
 
 returns-2 : tie.Need-returns-2
 returns-2 c =
-    let few = c .before .before .before .before .before .before .before .before .before .before .before .before .pre .1 .1 in
-    (two-runs (c .before .before .before .before .before .before .before .before .before .before .before .before .args .ring) (c .before .before .before .before .before .before .before .before .before .before .before .before .args .area .now) (c .before .before .before .before .before .before .before .before .before .before .before .before .pre .0) (c .before .before .before .before .before .before .before .before .before .before .before .before .args .first) (c .before .before .before .before .before .before .before .before .before .before .before .before .args .count) (c .before .before .before .before .before .before .before .before .before .before .before .before .args .out .now) (c .before .before .before .before .before .before .before .before .before .before .before .before .pre .1 .0) (omega (arith, c .before .before .before .before .before .before .before .before .if1 .left)) few, both-copied (c .before .before .before .before .before .before .before .before .before .before .before .before .args .ring) (c .before .before .before .before .before .before .before .before .before .before .before .before .args .area .now) (c .before .before .before .before .before .before .before .before .before .before .before .before .pre .0) (c .before .before .before .before .before .before .before .before .before .before .before .before .args .first) (c .before .before .before .before .before .before .before .before .before .before .before .before .args .count) (c .before .before .before .before .before .before .before .before .before .before .before .before .args .out .now) (c .before .before .before .before .before .before .before .before .before .before .before .before .pre .1 .0) (omega (arith, c .before .before .before .before .before .before .before .before .if1 .left)) few _ (c .before .before .before .before .before .before .before .before .before .before .before .before .pre .1 .2) (omega (arith, c .before .before .before .copy-run-arg3 .given)) (c .before .before .before .before .before .before .copy-run2 .ensures) (c .before .before .copy-run3 .ensures))
+    let first-run = c .before .before .before .before .before .before in
+    let past = first-run .before .before .if1 .left in
+    let s = first-run .before .before .before .before .before .before in
+    let few = s .pre .1 .1 in (
+      two-runs (s .args .ring) (s .args .area .now) (s .pre .0) (s .args .first) (s .args .count) (s .args .out .now) (s .pre .1 .0)
+          (omega (arith, past)) few,
+      both-copied (s .args .ring) (s .args .area .now) (s .pre .0) (s .args .first) (s .args .count) (s .args .out .now) (s .pre .1 .0)
+          (omega (arith, past)) few _ (s .pre .1 .2) (omega (arith, c .before .before .before .copy-run-arg3 .given)) (first-run .copy-run2 .ensures) (c .before .before .copy-run3 .ensures),
+    )
 
 pub copy-records-spec : {M : Type 1} → statement M
 copy-records-spec =

@@ -1,5 +1,7 @@
 -- Invariant: once the records left are put at the current byte, the output is as wanted; places step by the record size.
+use Prim.Native.Nat.{_+_, _≤_}
 use native.Mathlib.Omega.{arith}
+use lib.ListN.{length}
 use borrow.Author.Needs.{needs}
 use Rattle.copy_out.proofs.Laws.CopyOut.{Turn, turn-begins, record-inside, turn-goes-on, turn-ends}
 use Rattle.copy_out.proofs.copy_run.Statement.{statement}
@@ -11,14 +13,24 @@ Inv-loop ring area first count out₀ place₀ at₀ left₀ out place at left =
 abbrev μ-loop : tie.MeasureT-loop
 μ-loop ring area first count out₀ place₀ at₀ left₀ out place at left = left
 
+-- the record that is copied next lies in the area
+there : (c : tie.In-loop Inv-loop μ-loop) → c .before .loop .place + 8 ≤ length (c .before .before .before .before .before .args .area .now)
+there c =
+    let s = c .before .before .before .before .before in
+    record-inside (s .args .ring) (s .args .area .now) (s .pre .0) (s .args .first) (s .args .count) (s .args .out .now) (s .pre .1 .0)
+    (c .before .loop .inv) (c .loop-test .taken)
+
 record-place-requires : tie.Need-record-place-requires Inv-loop μ-loop
 record-place-requires c κs = search needs
 
 loop-holds : tie.Need-loop-holds Inv-loop μ-loop
-loop-holds c = turn-begins (c .before .before .before .args .ring) (c .before .before .before .args .area .now) (c .before .before .before .pre .0) (c .before .before .before .args .first) (c .before .before .before .args .count) (c .before .before .before .args .out .now) (c .before .before .before .pre .1 .0) (c .record-place .ensures) (c .before .before .before .pre .1 .1)
+loop-holds c =
+    let s = c .before .before .before in
+    turn-begins (s .args .ring) (s .args .area .now) (s .pre .0) (s .args .first) (s .args .count) (s .args .out .now) (s .pre .1 .0)
+    (c .record-place .ensures) (s .pre .1 .1)
 
 add-copy-eight : tie.Need-add-copy-eight Inv-loop μ-loop
-add-copy-eight c = omega (arith, record-inside (c .before .before .before .before .before .before .args .ring) (c .before .before .before .before .before .before .args .area .now) (c .before .before .before .before .before .before .pre .0) (c .before .before .before .before .before .before .args .first) (c .before .before .before .before .before .before .args .count) (c .before .before .before .before .before .before .args .out .now) (c .before .before .before .before .before .before .pre .1 .0) (c .before .before .loop .inv) (c .before .loop-test .taken), c .before .before .before .before .before .before .good)
+add-copy-eight c = omega (arith, there (c .before), c .before .before .before .before .before .before .good)
 
 sub-copy-eight : tie.Need-sub-copy-eight Inv-loop μ-loop
 sub-copy-eight c = search needs
@@ -27,19 +39,25 @@ part-copy-eight-start : tie.Need-part-copy-eight-start Inv-loop μ-loop
 part-copy-eight-start c = search needs
 
 part-copy-eight-end : tie.Need-part-copy-eight-end Inv-loop μ-loop
-part-copy-eight-end c = omega (arith, record-inside (c .before .before .before .before .before .before .args .ring) (c .before .before .before .before .before .before .args .area .now) (c .before .before .before .before .before .before .pre .0) (c .before .before .before .before .before .before .args .first) (c .before .before .before .before .before .before .args .count) (c .before .before .before .before .before .before .args .out .now) (c .before .before .before .before .before .before .pre .1 .0) (c .before .before .loop .inv) (c .before .loop-test .taken), c .before .before .before .before .before .before .good)
+part-copy-eight-end c = omega (arith, there (c .before), c .before .before .before .before .before .before .good)
 
 copy-eight-requires : tie.Need-copy-eight-requires Inv-loop μ-loop
-copy-eight-requires c κs = (omega (arith, c .copy-eight-arg2 .given), omega (arith, c .before .before .before .loop .inv .room, c .before .before .loop-test .taken))
+copy-eight-requires c κs =
+    (omega (arith, c .copy-eight-arg2 .given), omega (arith, c .before .before .before .loop .inv .room, c .before .before .loop-test .taken))
 
 cast-place : tie.Need-cast-place Inv-loop μ-loop
 cast-place c = search needs
 
 add-place : tie.Need-add-place Inv-loop μ-loop
-add-place c = omega (arith, record-inside (c .before .before .before .before .before .before .before .before .before .before .before .args .ring) (c .before .before .before .before .before .before .before .before .before .before .before .args .area .now) (c .before .before .before .before .before .before .before .before .before .before .before .pre .0) (c .before .before .before .before .before .before .before .before .before .before .before .args .first) (c .before .before .before .before .before .before .before .before .before .before .before .args .count) (c .before .before .before .before .before .before .before .before .before .before .before .args .out .now) (c .before .before .before .before .before .before .before .before .before .before .before .pre .1 .0) (c .before .before .before .before .before .before .before .loop .inv) (c .before .before .before .before .before .before .loop-test .taken), c .before .before .before .before .before .before .before .before .before .before .before .good)
+add-place c =
+    let turn = c .before .before .before .before .before .before in
+    omega (arith, there turn, turn .before .before .before .before .before .good)
 
 add-at : tie.Need-add-at Inv-loop μ-loop
-add-at c = omega (arith, c .before .before .before .before .before .before .before .loop .inv .room, c .before .before .before .before .before .before .before .loop .inv .remains .size, c .before .before .before .before .before .before .loop-test .taken, c .before .before .before .before .before .before .before .before .before .before .before .good)
+add-at c =
+    let turn = c .before .before .before .before .before .before in
+    let loop = turn .before .loop in
+    omega (arith, loop .inv .room, loop .inv .remains .size, turn .loop-test .taken, turn .before .before .before .before .before .good)
 
 sub-left : tie.Need-sub-left Inv-loop μ-loop
 sub-left c = omega (arith, c .before .before .before .before .before .before .loop-test .taken)
@@ -48,13 +66,20 @@ loop-less : tie.Need-loop-less Inv-loop μ-loop
 loop-less c = omega (arith, c .before .before .before .before .before .before .loop-test .taken)
 
 loop-again : tie.Need-loop-again Inv-loop μ-loop
-loop-again c = turn-goes-on (c .before .before .before .before .before .before .before .before .before .before .before .args .ring) (c .before .before .before .before .before .before .before .before .before .before .before .args .area .now) (c .before .before .before .before .before .before .before .before .before .before .before .pre .0) (c .before .before .before .before .before .before .before .before .before .before .before .args .first) (c .before .before .before .before .before .before .before .before .before .before .before .args .count) (c .before .before .before .before .before .before .before .before .before .before .before .args .out .now) (c .before .before .before .before .before .before .before .before .before .before .before .pre .1 .0) (c .before .before .before .before .before .before .before .loop .inv) (c .before .before .before .before .before .before .loop-test .taken) (c .before .before .before .copy-eight .ensures)
+loop-again c =
+    let turn = c .before .before .before .before .before .before in
+    let s = turn .before .before .before .before .before in
+    turn-goes-on (s .args .ring) (s .args .area .now) (s .pre .0) (s .args .first) (s .args .count) (s .args .out .now) (s .pre .1 .0)
+    (turn .before .loop .inv) (turn .loop-test .taken) (c .before .before .before .copy-eight .ensures)
 
 same-length : tie.Need-same-length Inv-loop μ-loop
 same-length c = c .before .loop .inv .remains .size
 
 returns : tie.Need-returns Inv-loop μ-loop
-returns c = turn-ends (c .before .before .before .before .before .args .ring) (c .before .before .before .before .before .args .area .now) (c .before .before .before .before .before .pre .0) (c .before .before .before .before .before .args .first) (c .before .before .before .before .before .args .count) (c .before .before .before .before .before .args .out .now) (c .before .before .before .before .before .pre .1 .0) (c .before .loop .inv) (omega (arith, c .loop-test .left))
+returns c =
+    let s = c .before .before .before .before .before in
+    turn-ends (s .args .ring) (s .args .area .now) (s .pre .0) (s .args .first) (s .args .count) (s .args .out .now) (s .pre .1 .0)
+    (c .before .loop .inv) (omega (arith, c .loop-test .left))
 
 pub copy-run-spec : {M : Type 1} → statement M
 copy-run-spec =
