@@ -17,17 +17,18 @@ use Rattle.copy_out.proofs.copy_out.Statement.{statement}
 use Rattle.copy_out.proofs.copy_out.Tie as tie
 
 -- the area of a call that goes on has its length, and so it holds the ring and the pointers
-known : (c : tie.Else1) → isSized (c .before .before .before .before .args .geometry) (length (c .before .before .before .before .args .area .now)) ≡ true
+known : (c : tie.Else1) → let a = c .before .before .before .before .args in isSized (a .geometry) (length (a .area .now)) ≡ true
 known c = sym (c .before .is-sized .ensures) ∙ not-false _ (c .if1 .left)
 
-holds : (c : tie.Else1) → Holds (length (c .before .before .before .before .args .area .now)) (ringOf (c .before .before .before .before .args .geometry))
+holds : (c : tie.Else1) → let a = c .before .before .before .before .args in Holds (length (a .area .now)) (ringOf (a .geometry))
 holds c = let a = c .before .before .before .before .args in sized-holds (a .geometry) (a .area .now) (known c)
 
 pointers : (c : tie.Else1) → 8 ≤ length (c .before .before .before .before .args .area .now)
 pointers c = pointers-inside _ _ (holds c)
 
 -- the pointers of a call that is not refused are possible
-inside : (c : tie.Else2) → Possible (c .before .before .before .before .before .before .ring-of .result) (c .before .before .before .before .read-pointer .result) (c .before .before .write-pointer .result)
+inside : (c : tie.Else2)
+    → Possible (c .before .before .before .before .before .before .ring-of .result) (c .before .before .before .before .read-pointer .result) (c .before .before .write-pointer .result)
 inside c = possible _ _ _ (sym (c .before .reading-refusal .ensures) ∙ c .if2 .left)
 
 is-sized-requires : tie.Need-is-sized-requires
@@ -91,7 +92,8 @@ copy-records-requires c κs =
     let least = c .before .before .smaller2 .ensures .2 in
     let low : c .before .before .before .before .unread-count .result < sized .ring-of .result .length
     = rw (c .before .before .before .before .unread-count .ensures) (mod-lt _ (omega (arith, p .read-inside))) in
-    (rw (sized .ring-of .ensures) (holds (sized .before)), (p .read-inside, omega (arith, low, c .before .before .smaller2 .ensures .1), omega arith))
+    let all = c .before .before .smaller2 .ensures .1 in
+    (rw (sized .ring-of .ensures) (holds (sized .before)), (p .read-inside, omega (arith, low, all), omega arith))
 
 set-read-pointer-requires : tie.Need-set-read-pointer-requires
 set-read-pointer-requires c κs =
@@ -120,8 +122,10 @@ returns-3 c =
     copy-done (a .geometry) (a .area .now) (a .limit) (a .out .now) (known start)
     (judged .before .before .before .read-pointer .ensures) (judged .before .write-pointer .ensures)
     (rw ring at (judged .reading-refusal .ensures)) (counted .before .if2 .left)
-    (rw ring at (counted .unread-count .ensures)) (copied .before .before .before .before .smaller .ensures .0) (copied .before .before .before .smaller2 .ensures .0)
-    (rw ring at (copied .copy-records .ensures .0)) (c .before .before .set-read-pointer .ensures) (rw ring at (copied .copy-records .ensures .1))
+    (rw ring at (counted .unread-count .ensures))
+    (copied .before .before .before .before .smaller .ensures .0) (copied .before .before .before .smaller2 .ensures .0)
+    (rw ring at (copied .copy-records .ensures .0)) (c .before .before .set-read-pointer .ensures)
+    (rw ring at (copied .copy-records .ensures .1))
 
 pub copy-out-spec : {M : Type 1} → statement M
 copy-out-spec =

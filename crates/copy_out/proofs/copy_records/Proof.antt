@@ -71,7 +71,8 @@ returns-2 c =
       two-runs (s .args .ring) (s .args .area .now) (s .pre .0) (s .args .first) (s .args .count) (s .args .out .now) (s .pre .1 .0)
           (omega (arith, past)) few,
       both-copied (s .args .ring) (s .args .area .now) (s .pre .0) (s .args .first) (s .args .count) (s .args .out .now) (s .pre .1 .0)
-          (omega (arith, past)) few _ (s .pre .1 .2) (omega (arith, c .before .before .before .copy-run-arg3 .given)) (first-run .copy-run2 .ensures) (c .before .before .copy-run3 .ensures),
+          (omega (arith, past)) few _ (s .pre .1 .2) (omega (arith, c .before .before .before .copy-run-arg3 .given))
+          (first-run .copy-run2 .ensures) (c .before .before .copy-run3 .ensures),
     )
 
 pub copy-records-spec : {M : Type 1} → statement M

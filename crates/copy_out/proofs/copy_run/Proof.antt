@@ -14,7 +14,7 @@ abbrev μ-loop : tie.MeasureT-loop
 μ-loop ring area first count out₀ place₀ at₀ left₀ out place at left = left
 
 -- the record that is copied next lies in the area
-there : (c : tie.In-loop Inv-loop μ-loop) → c .before .loop .place + 8 ≤ length (c .before .before .before .before .before .args .area .now)
+there : (c : tie.In-loop Inv-loop μ-loop) → let a = c .before .before .before .before .before .args in c .before .loop .place + 8 ≤ length (a .area .now)
 there c =
     let s = c .before .before .before .before .before in
     record-inside (s .args .ring) (s .args .area .now) (s .pre .0) (s .args .first) (s .args .count) (s .args .out .now) (s .pre .1 .0)
@@ -43,7 +43,8 @@ part-copy-eight-end c = omega (arith, there (c .before), c .before .before .befo
 
 copy-eight-requires : tie.Need-copy-eight-requires Inv-loop μ-loop
 copy-eight-requires c κs =
-    (omega (arith, c .copy-eight-arg2 .given), omega (arith, c .before .before .before .loop .inv .room, c .before .before .loop-test .taken))
+    let turn = c .before .before in
+    (omega (arith, c .copy-eight-arg2 .given), omega (arith, turn .before .loop .inv .room, turn .loop-test .taken))
 
 cast-place : tie.Need-cast-place Inv-loop μ-loop
 cast-place c = search needs
