@@ -21,22 +21,33 @@ slice-aggregate-write-number-2 : tie.Need-slice-aggregate-write-number-2
 slice-aggregate-write-number-2 c = search needs
 
 write-number-requires-2 : tie.Need-write-number-requires-2
-write-number-requires-2 c κs = let w = c .before .before .before .before .before .write-number in
-    omega (arith, w .kept, number-length _ 32 (w .ensures), c .before .before .before .before .before .before .before .before .before .before .pre)
+write-number-requires-2 c κs =
+    let first = c .before .before .before .before .before in
+    let w = first .write-number in
+    omega (arith, w .kept, number-length _ 32 (w .ensures), first .before .before .before .before .before .pre)
 
 slice-aggregate-write-number-3 : tie.Need-slice-aggregate-write-number-3
 slice-aggregate-write-number-3 c = search needs
 
 write-number-requires-3 : tie.Need-write-number-requires-3
-write-number-requires-3 c κs = let w = c .before .before .before .before .before .before .before .before .before .before .write-number in
-    let w2 = c .before .before .before .before .write-number2 in
-    omega (arith, w .kept, w2 .kept, number-length _ 32 (w .ensures), number-length _ 32 (w2 .ensures), c .before .before .before .before .before .before .before .before .before .before .before .before .before .before .before .pre)
+write-number-requires-3 c κs =
+    let second = c .before .before .before .before in
+    let first = second .before .before .before .before .before .before in
+    let w = first .write-number in
+    let w2 = second .write-number2 in
+    omega (arith, w .kept, w2 .kept, number-length _ 32 (w .ensures), number-length _ 32 (w2 .ensures), first .before .before .before .before .before .pre)
 
 same-length : tie.Need-same-length
 same-length c = search needs
 
 returns : tie.Need-returns
-returns c = record-written (c .before .before .before .before .before .before .before .before .before .before .before .before .before .before .before .before .before .before .args .event) (c .before .before .before .before .before .before .before .before .before .before .before .before .before .before .before .before .before .before .pre) (c .before .before .before .before .before .before .before .before .before .before .before .before .before .write-number .ensures) (c .before .before .before .before .before .before .before .write-number2 .ensures) (c .before .before .write-number3 .ensures)
+returns c =
+    let third = c .before .before in
+    let second = third .before .before .before .before .before in
+    let first = second .before .before .before .before .before .before in
+    let start = first .before .before .before .before .before in
+    record-written (start .args .event) (start .pre)
+    (first .write-number .ensures) (second .write-number2 .ensures) (third .write-number3 .ensures)
 
 pub write-record-spec : {M : Type 1} → statement M
 write-record-spec =

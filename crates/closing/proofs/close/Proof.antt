@@ -47,7 +47,20 @@ number-of-requires-5 c κs = search needs
 
 returns-2 : tie.Need-returns-2
 unfolding unlessLacking
-returns-2 c = rw (sym (c .before .before .before .before .before .before .before .before .before .before .first-lack .ensures) ∙ c .before .before .before .before .before .before .before .before .enum-told .given .1, c .before .before .before .before .before .before .before .is-absolute .ensures, c .before .before .before .before .before .before .is-multi-touch .ensures, c .before .before .before .before .before .is-raw .ensures, c .before .before .before .before .number-of .ensures, c .before .before .before .number-of2 .ensures, c .before .before .number-of3 .ensures, c .before .number-of4 .ensures, c .number-of5 .ensures)
+returns-2 c =
+    let modes = c .before .before .before .before .before in
+    let lack = modes .before .before .before .before .before in
+    rw (
+      sym (lack .first-lack .ensures) ∙ modes .before .before .before .enum-told .given .1,
+      modes .before .before .is-absolute .ensures,
+      modes .before .is-multi-touch .ensures,
+      modes .is-raw .ensures,
+      c .before .before .before .before .number-of .ensures,
+      c .before .before .before .number-of2 .ensures,
+      c .before .before .number-of3 .ensures,
+      c .before .number-of4 .ensures,
+      c .number-of5 .ensures,
+    )
 
 pub close-spec : {M : Type 1} → statement M
 close-spec =
