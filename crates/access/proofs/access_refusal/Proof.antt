@@ -17,7 +17,8 @@ Passed count rows = firstRefusal rows ≡ firstRefusal (drop count rows)
 
 -- a word within the BAR
 inside : (c : tie.Else4)
-    → let a = c .before .before .before .before .before .args in Passed 4 (accessRefusals (a .valid) (a .geometry) (a .writes) (a .offset) (a .width))
+    → let a = c .before .before .before .before .before .args in
+    Passed 4 (accessRefusals (a .valid) (a .geometry) (a .writes) (a .offset) (a .width))
 unfolding firstRefusal
 inside c =
     rw (
@@ -30,9 +31,12 @@ inside c =
 
 -- where something stands
 placed : (c : tie.Else5)
-    → let start = c .before .before .before .before in let a = start .before .before .before .before .args in Passed 5 (accessRefusals (a .valid) (a .geometry) (a .writes) (a .offset) (a .width))
+    → let start = c .before .before .before .before in let a = start .before .before .before .before .args in
+    Passed 5 (accessRefusals (a .valid) (a .geometry) (a .writes) (a .offset) (a .width))
 unfolding firstRefusal
-placed c = inside (c .before .before .before) ∙ rw (← c .before .before .place-of .ensures, sym (c .before .is-nothing .ensures) ∙ c .if5 .left)
+placed c =
+    inside (c .before .before .before)
+    ∙ rw (← c .before .before .place-of .ensures, sym (c .before .is-nothing .ensures) ∙ c .if5 .left)
 
 returns : tie.Need-returns
 unfolding firstRefusal
@@ -45,7 +49,11 @@ returns-2 c = rw (not-false (c .before .before .args .valid) (c .before .if1 .le
 returns-3 : tie.Need-returns-3
 unfolding firstRefusal
 returns-3 c =
-    rw (not-false (c .before .before .before .args .valid) (c .before .before .if1 .left), eq-eqb _ _ (c .before .if2 .left), ne-eqb _ _ (c .if3 .taken))
+    rw (
+      not-false (c .before .before .before .args .valid) (c .before .before .if1 .left),
+      eq-eqb _ _ (c .before .if2 .left),
+      ne-eqb _ _ (c .if3 .taken),
+    )
 
 bar-length-requires : tie.Need-bar-length-requires
 bar-length-requires c κs = search needs
@@ -69,7 +77,9 @@ is-nothing-requires c κs = search needs
 
 returns-5 : tie.Need-returns-5
 unfolding firstRefusal
-returns-5 c = sym (inside (c .before .before .before) ∙ rw (← c .before .before .place-of .ensures, sym (c .before .is-nothing .ensures) ∙ c .if5 .taken))
+returns-5 c =
+    sym (inside (c .before .before .before)
+    ∙ rw (← c .before .before .place-of .ensures, sym (c .before .is-nothing .ensures) ∙ c .if5 .taken))
 
 returns-6 : tie.Need-returns-6
 unfolding firstRefusal
@@ -85,14 +95,24 @@ unfolding firstRefusal
 returns-7 c =
     let found = c .before .before .before .before .before in
     let writes = found .before .before .before .before .before .before .args .writes in
-    sym (placed (c .before .before .before) ∙ rw (← found .place-of .ensures, not-false writes (c .before .before .if6 .left), sym (c .before .is-read-only .ensures) ∙ c .if7 .taken))
+    sym (placed (c .before .before .before)
+    ∙ rw (
+      ← found .place-of .ensures,
+      not-false writes (c .before .before .if6 .left),
+      sym (c .before .is-read-only .ensures) ∙ c .if7 .taken,
+    ))
 
 returns-8 : tie.Need-returns-8
 unfolding firstRefusal
 returns-8 c =
     let found = c .before .before .before .before .before in
     let writes = found .before .before .before .before .before .before .args .writes in
-    sym (placed (c .before .before .before) ∙ rw (← found .place-of .ensures, not-false writes (c .before .before .if6 .left), sym (c .before .is-read-only .ensures) ∙ c .if7 .left))
+    sym (placed (c .before .before .before)
+    ∙ rw (
+      ← found .place-of .ensures,
+      not-false writes (c .before .before .if6 .left),
+      sym (c .before .is-read-only .ensures) ∙ c .if7 .left,
+    ))
 
 pub access-refusal-spec : {M : Type 1} → statement M
 access-refusal-spec =

@@ -12,8 +12,11 @@ use Rattle.capture.proofs.list.Statement.{statement}
 use Rattle.capture.proofs.list.Tie as tie
 
 -- a page that isn't refused has pointers within its ring
-pointers : (c : tie.Else1) → let area = c .before .before .before .before .before .before .args .area .now in (readPointer area < 511) × (writePointer area < 511)
-pointers c = let a = c .before .before .before .before .before .before .args in possible-pointers (a .input-length) (a .area .now) (c .before .refusal .ensures) (c .if1 .left)
+pointers : (c : tie.Else1)
+    → let area = c .before .before .before .before .before .before .args .area .now in (readPointer area < 511) × (writePointer area < 511)
+pointers c =
+    let a = c .before .before .before .before .before .before .args in
+    possible-pointers (a .input-length) (a .area .now) (c .before .refusal .ensures) (c .if1 .left)
 
 slice-aggregate-write-text : tie.Need-slice-aggregate-write-text
 slice-aggregate-write-text c = search needs
@@ -91,7 +94,8 @@ returns-2 c =
     let whole = found .before .before in
     let a = whole .before .before .before .before .before .before .args in
     let size : length (a .out .now) ≡ 20480 = search needs in
-    whole-listing (a .input-length) (a .area .now) (whole .before .refusal .ensures) size (whole .before .before .before .write-text .ensures) (whole .if1 .left)
+    whole-listing (a .input-length) (a .area .now) (whole .before .refusal .ensures) size
+    (whole .before .before .before .write-text .ensures) (whole .if1 .left)
     (found .read-pointer .ensures) (counted .before .write-pointer .ensures) (counted .unread-count .ensures)
     (c .before .before .before .write-records .ensures) (c .write-line2 .ensures)
 

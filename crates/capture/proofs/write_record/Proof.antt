@@ -35,7 +35,14 @@ write-number-requires-3 c κs =
     let first = second .before .before .before .before .before .before in
     let w = first .write-number in
     let w2 = second .write-number2 in
-    omega (arith, w .kept, w2 .kept, number-length _ 32 (w .ensures), number-length _ 32 (w2 .ensures), first .before .before .before .before .before .pre)
+    omega (
+      arith,
+      w .kept,
+      w2 .kept,
+      number-length _ 32 (w .ensures),
+      number-length _ 32 (w2 .ensures),
+      first .before .before .before .before .before .pre,
+    )
 
 same-length : tie.Need-same-length
 same-length c = search needs

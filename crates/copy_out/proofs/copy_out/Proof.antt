@@ -28,7 +28,9 @@ pointers c = pointers-inside _ _ (holds c)
 
 -- the pointers of a call that is not refused are possible
 inside : (c : tie.Else2)
-    → Possible (c .before .before .before .before .before .before .ring-of .result) (c .before .before .before .before .read-pointer .result) (c .before .before .write-pointer .result)
+    → Possible (c .before .before .before .before .before .before .ring-of .result)
+    (c .before .before .before .before .read-pointer .result)
+    (c .before .before .write-pointer .result)
 inside c = possible _ _ _ (sym (c .before .reading-refusal .ensures) ∙ c .if2 .left)
 
 is-sized-requires : tie.Need-is-sized-requires

@@ -14,7 +14,8 @@ abbrev μ-loop : tie.MeasureT-loop
 μ-loop ring area first count out₀ place₀ at₀ left₀ out place at left = left
 
 -- the record that is copied next lies in the area
-there : (c : tie.In-loop Inv-loop μ-loop) → let a = c .before .before .before .before .before .args in c .before .loop .place + 8 ≤ length (a .area .now)
+there : (c : tie.In-loop Inv-loop μ-loop)
+    → let a = c .before .before .before .before .before .args in c .before .loop .place + 8 ≤ length (a .area .now)
 there c =
     let s = c .before .before .before .before .before in
     record-inside (s .args .ring) (s .args .area .now) (s .pre .0) (s .args .first) (s .args .count) (s .args .out .now) (s .pre .1 .0)

@@ -18,7 +18,8 @@ use Rattle.driver.proofs.step.Tie as tie
 
 -- what a valid call is known for
 known : (c : tie.Else1)
-    → let a = c .before .before .before .before .args in isValid (a .geometry) (a .driver) (length (a .area .now)) (length (a .packet .now)) ≡ true
+    → let a = c .before .before .before .before .args in
+    isValid (a .geometry) (a .driver) (length (a .area .now)) (length (a .packet .now)) ≡ true
 known c = sym (c .before .is-valid .ensures) ∙ not-false _ (c .if1 .left)
 
 holds : (c : tie.Else1) → let a = c .before .before .before .before .args in Holds (length (a .area .now)) (ringOf (a .geometry))
@@ -26,7 +27,8 @@ holds c = let a = c .before .before .before .before .args in valid-holds (a .geo
 
 -- what was read, by the definition
 read : (c : tie.After-read-oldest)
-    → let start = c .before .before .before in let a = start .before .before .before .before .args in c .read-oldest .result ≡ oldestOf (ringOf (a .geometry)) (a .area .now)
+    → let start = c .before .before .before in let a = start .before .before .before .before .args in
+    c .read-oldest .result ≡ oldestOf (ringOf (a .geometry)) (a .area .now)
 read c =
     let start = c .before .before .before in
     let a = start .before .before .before .before .args in
@@ -66,11 +68,13 @@ returns-2 c =
     let a = start .before .before .before .before .args in
     rw (c .refusal-of .ensures, c .before .enum-told .given .1)
     (answered (a .geometry) (a .driver) (a .area .now) (a .packet .now)
-    (step-refused (a .geometry) (a .driver) (a .area .now) (a .packet .now) (known start) (sym (read (c .before .before .before)) ∙ c .before .enum-told .given .1)))
+    (step-refused (a .geometry) (a .driver) (a .area .now) (a .packet .now) (known start)
+    (sym (read (c .before .before .before)) ∙ c .before .enum-told .given .1)))
 
 next-index-requires : tie.Need-next-index-requires
 next-index-requires c κs =
-    rw (c .before .before .before .before .before .ring-of .ensures) (oldest-index _ _ (sym (read (c .before .before .before)) ∙ c .before .oldest .given .1) .1)
+    let index = oldest-index _ _ (sym (read (c .before .before .before)) ∙ c .before .oldest .given .1) in
+    rw (c .before .before .before .before .before .ring-of .ensures) (index .1)
 
 set-read-pointer-requires : tie.Need-set-read-pointer-requires
 set-read-pointer-requires c κs =
