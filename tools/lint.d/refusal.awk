@@ -2,7 +2,8 @@
 # prover ends with "not proved", so also where a text can't be read, or a proof names what the edited code no longer has. Code that is
 # right but of another shape is refused so too: such an edit shows nothing.
 #
-# The first error decides, since the others may rest on it. A function without a proof file has no error but a note.
+# The first error decides, since others may rest on it. A function without a proof file has no error but a note, and the errors of
+# its callers' proofs say only that it was not admitted.
 
 # The name of what is checked stands before the message of an error, but not where a text can't be read.
 function why_of_error(line,    place, message) {
@@ -16,12 +17,11 @@ function why_of_error(line,    place, message) {
     if (message ~ /^`[^`]*` is not in scope/) return "a name isn't in scope"
     if (message ~ /^(record `[^`]*` has no field|`[^`]*` is not a field of|`\.[^`]*` projects from)/)
         return "a field is gone that the proof uses"
-    if (message ~ /^`[^`]*` was not admitted/) return "what the proof uses was not admitted"
     if (message ~ /^expected type `tie\.Need-[^`]*`, but this has type `tie\.Need-/) return "the needs of the proof are others"
     return ""
 }
 
-first == "" && /^[^ ]*:[0-9]+:[0-9]+: error/ { first = $0 }
+first == "" && /^[^ ]*:[0-9]+:[0-9]+: error/ && !/: error: `[^`]*`: `[^`]*` was not admitted / { first = $0 }
 
 /^note: .*: it is not proved that / { unproved = 1 }
 
