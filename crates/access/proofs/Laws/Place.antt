@@ -7,6 +7,7 @@ use native.Mathlib.Omega.{arith}
 use native.Mathlib.Decide.{decLt}
 use lib.Dec.{eqb}
 use borrow.Author.Tests.{lt-ltb, le-ltb, ltb-true, ltb-false}
+use Rattle.answers.proofs.Choice.{either}
 use Rattle.geometry.specs.declared.Geometry.{Geometry}
 use Rattle.geometry.specs.Geometry.{areaLength}
 use Rattle.geometry.proofs.Laws.Allowed.{both}
@@ -34,17 +35,13 @@ allFirst : List (ℕ × Place) → Bool
 allFirst [] = true
 allFirst ((at, place) ∷ rest) = isFirst place && allFirst rest
 
-either : (test : Bool) (one other : Place) → isFirst one ≡ true → isFirst other ≡ true → isFirst (cond test one other) ≡ true
-either true one other a b = a
-either false one other a b = b
-
 -- a table of registers gives places of the first page only
 in-table : (table : List (ℕ × Place)) (offset : ℕ) → allFirst table ≡ true → isFirst (placeIn table offset) ≡ true
 unfolding isFirst allFirst placeIn
 in-table [] offset h = refl
 in-table ((at, place) ∷ rest) offset h =
     let all = both (isFirst place) (allFirst rest) h in
-    either (eqb offset at) place (placeIn rest offset) (all .0) (in-table rest offset (all .1))
+    either (λ (p : Place). isFirst p ≡ true) (eqb offset at) (λ same. all .0) (λ other. in-table rest offset (all .1))
 
 never-first : (offset : ℕ) (place : Place) → isFirst place ≡ false → placeIn registers offset ≡ place → ⊥
 unfolding isFirst allFirst
