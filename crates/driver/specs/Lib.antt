@@ -1,3 +1,2 @@
-pub mod Reader
 pub mod Step
 pub mod Answer

@@ -11,15 +11,15 @@ use Rattle.records.specs.Ring.{withReadPointer, nextIndex}
 use Rattle.assembly.specs.declared.Driver.{Driver}
 use Rattle.assembly.specs.declared.Stepped.{Stepped}
 use Rattle.assembly.specs.declared.Told.the-variants as told
-use Rattle.driver.specs.declared.Oldest.{Oldest}
-use Rattle.driver.specs.declared.Oldest.the-variants as oldest
+use Rattle.reading.specs.declared.Oldest.{Oldest}
+use Rattle.reading.specs.declared.Oldest.the-variants as oldest
 use Rattle.records.specs.Codes.{noSlot, unknownSlot}
 use Rattle.records.specs.Event.{mostEvents}
 use Rattle.assembly.specs.Kind.{isSlot}
 use Rattle.assembly.specs.Transition.{tells, receive}
 use Rattle.assembly.specs.Collect.{packetLength, collected}
 use Rattle.reading.specs.Reading.{isSized}
-use Rattle.driver.specs.Reader.{oldestOf}
+use Rattle.reading.specs.Oldest.{oldestOf}
 
 -- At most 32 events are held, and the slot is none, unknown or in range.
 unfoldable pub isDriver : Geometry → Driver → Bool

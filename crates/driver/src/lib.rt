@@ -1,5 +1,4 @@
 // The guest's reader of the event area: one record a step.
-use answers::DONE;
 use answers::INVALID;
 use assembly::Driver;
 use assembly::PACKET_LENGTH;
@@ -7,10 +6,10 @@ use assembly::Stepped;
 use assembly::Told;
 use assembly::receive;
 use geometry::Geometry;
-use geometry::Ring;
+use reading::Oldest;
 use reading::is_sized;
-use reading::reading_refusal;
-use records::Event;
+use reading::read_oldest;
+use reading::refusal_of;
 use records::MOST_EVENTS;
 use records::codes::NO_SLOT;
 use records::codes::UNKNOWN_SLOT;
@@ -18,17 +17,9 @@ ghost use mathlib.Core.Path.{_≡_};
 ghost use mathlib.Core.Bool.{true};
 ghost use lib.ListN.{length};
 ghost use Rattle.geometry.specs.Geometry.{allowed};
-ghost use Rattle.records.specs.Ring.{Holds};
-ghost use Rattle.driver.specs.Reader.{oldestOf, refusalOf};
 ghost use Rattle.assembly.specs.Transition.{answerOf};
 ghost use Rattle.driver.specs.Answer.{stepAnswer};
 ghost use Rattle.driver.specs.Step.{isDriver, isValid, stepOf};
-
-// The oldest unread record and its index, or why there is none.
-pub enum Oldest {
-    Record { index: u32, event: Event },
-    Refused(u8),
-}
 
 fn is_driver(geometry: Geometry, driver: Driver) -> bool
     requires { ⌜ allowed geometry ≡ true ⌝ }
@@ -57,31 +48,6 @@ fn is_valid(geometry: Geometry, driver: Driver, area_size: usize, packet_size: u
         return false;
     }
     is_driver(geometry, driver)
-}
-
-// Each pointer is fetched once: what was tested is what is used.
-fn read_oldest(ring: Ring, area: &[u8]) -> Oldest
-    requires { ⌜ Holds (length (now area)) ring ⌝ }
-    ensures { λ r. ⌜ r ≡ oldestOf ring (now (area .entry)) ⌝ }
-{
-    let index = records::read_pointer(area);
-    let refusal = reading_refusal(ring, index, records::write_pointer(area));
-    if refusal != DONE {
-        return Oldest::Refused(refusal);
-    }
-    Oldest::Record {
-        index: index,
-        event: records::record_at(ring, area, index),
-    }
-}
-
-fn refusal_of(oldest: Oldest) -> u8
-    ensures { λ r. ⌜ r ≡ refusalOf oldest ⌝ }
-{
-    match oldest {
-        Oldest::Refused(number) => number,
-        Oldest::Record { index: _, event: _ } => DONE,
-    }
 }
 
 // Reads one record. An event that joins the packet is written behind those before it.

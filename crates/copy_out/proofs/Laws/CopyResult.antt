@@ -15,7 +15,7 @@ use Rattle.records.specs.Ring.{readPointer, writePointer, withReadPointer, unre
 use Rattle.records.proofs.Laws.Index.{unread-unique, unread-below}
 use Rattle.records.proofs.Laws.Put.{moved-read-pointer}
 use Rattle.reading.specs.Reading.{isSized, readingRefusal}
-use Rattle.reading.proofs.Laws.{possible, sized-holds}
+use Rattle.reading.proofs.Laws.Reading.{possible, sized-holds}
 use Rattle.copy_out.specs.declared.Copied.{Copied}
 use Rattle.copy_out.specs.CopyOut.{bytesFrom, copyAnswer, refusedCopy, copyOf}
 

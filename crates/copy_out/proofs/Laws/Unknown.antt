@@ -16,7 +16,7 @@ use Rattle.records.specs.Ring.{Holds, readPointer, writePointer}
 use Rattle.records.specs.Unread.{SameToDriver}
 use Rattle.records.proofs.Laws.Unknown.{same-read-pointer, same-write-pointer, same-bytes, same-moved}
 use Rattle.reading.specs.Reading.{isSized}
-use Rattle.reading.proofs.Laws.{sized, sized-holds}
+use Rattle.reading.proofs.Laws.Reading.{sized, sized-holds}
 use Rattle.copy_out.specs.CopyOut.{bytesFrom, copyAnswer, copyOf}
 
 same-copied : (ring : Ring) (left right : List ℕ) → Holds (length left) ring → 0 < ring .length → SameToDriver ring left right

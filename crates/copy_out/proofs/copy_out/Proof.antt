@@ -10,7 +10,7 @@ use Rattle.geometry.specs.Geometry.{ringOf}
 use Rattle.records.specs.Ring.{Holds}
 use Rattle.records.proofs.Laws.Place.{pointers-inside}
 use Rattle.reading.specs.Reading.{isSized}
-use Rattle.reading.proofs.Laws.{sized, sized-holds, Possible, possible}
+use Rattle.reading.proofs.Laws.Reading.{sized, sized-holds, Possible, possible}
 use Rattle.copy_out.proofs.Laws.CopyResult.{copy-invalid, copy-refused, copy-done}
 use borrow.Author.Needs.{needs}
 use Rattle.copy_out.proofs.copy_out.Statement.{statement}

@@ -23,9 +23,9 @@ use Rattle.assembly.specs.Transition.{answerOf, tells, receive}
 use Rattle.assembly.specs.Run.{givenBy}
 use Rattle.assembly.specs.Collect.{collect}
 use Rattle.answers.specs.Refusals.{firstRefusal}
-use Rattle.driver.specs.declared.Oldest.the-variants as oldest
+use Rattle.reading.specs.declared.Oldest.the-variants as oldest
 use Rattle.reading.specs.Reading.{isSized, readingRefusal}
-use Rattle.driver.specs.Reader.{oldestOf}
+use Rattle.reading.specs.Oldest.{oldestOf}
 use Rattle.driver.specs.Step.{isValid}
 use Rattle.driver.proofs.Laws.Step.{step-refused, step-received}
 use Rattle.device.proofs.Laws.Call.{call as known}

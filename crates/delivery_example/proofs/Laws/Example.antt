@@ -17,7 +17,7 @@ use Rattle.assembly.specs.Kind.{devKind, kindOf}
 use Rattle.assembly.specs.Transition.{spoiled, joined, reported, withoutSlot}
 use Rattle.assembly.specs.Collect.{collected}
 use Rattle.reading.specs.Reading.{isSized, readingRefusal}
-use Rattle.driver.specs.Reader.{oldestOf}
+use Rattle.reading.specs.Oldest.{oldestOf}
 use Rattle.driver.specs.Step.{isDriver, isValid, stepOf}
 use Rattle.device.specs.State.{clientRevRule, currentRule, isDevice}
 use Rattle.device.specs.Call.{isSized as sizedCall, isCall}

@@ -18,7 +18,7 @@ use Rattle.assembly.specs.declared.Kind.the-variants.{SynReport, SynDropped, De
 use Rattle.assembly.specs.Kind.{kindOf}
 use Rattle.assembly.specs.Transition.{answerOf, reported, received}
 use Rattle.reading.specs.Reading.{readingRefusal}
-use Rattle.driver.specs.Reader.{oldestOf}
+use Rattle.reading.specs.Oldest.{oldestOf}
 use Rattle.driver.specs.Step.{isValid, stepOf}
 use Rattle.driver.specs.Answer.{isMalformed, stepAnswer}
 use Rattle.driver.proofs.Laws.Step.{Leaves}

@@ -15,12 +15,12 @@ use Rattle.records.proofs.Laws.Place.{allowed-holds}
 use Rattle.assembly.specs.declared.Driver.{Driver}
 use Rattle.assembly.specs.declared.Stepped.{Stepped}
 use Rattle.assembly.specs.declared.Told.the-variants as told
-use Rattle.driver.specs.declared.Oldest.the-variants as oldest
+use Rattle.reading.specs.declared.Oldest.the-variants as oldest
 use Rattle.assembly.specs.Transition.{tells, receive}
 use Rattle.assembly.specs.Collect.{packetLength, collected}
 use Rattle.reading.specs.Reading.{isSized}
-use Rattle.reading.proofs.Laws.{sized}
-use Rattle.driver.specs.Reader.{oldestOf}
+use Rattle.reading.proofs.Laws.Reading.{sized}
+use Rattle.reading.specs.Oldest.{oldestOf}
 use Rattle.driver.specs.Step.{isDriver, isValid, stepOf}
 
 pub record Valid (geometry : Geometry) (driver : Driver) (areaSize packetSize : ℕ) : Type 0 where

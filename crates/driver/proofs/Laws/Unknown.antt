@@ -1,28 +1,23 @@
 -- Whatever an area holds beyond what a driver knows, a step gives the same and leaves an area that is the same to it.
-use Prim.Native.Nat.{ℕ, _<_}
+use Prim.Native.Nat.{ℕ}
 use mathlib.Core.Path.{_≡_, refl}
 use mathlib.Core.Bool.{Bool, true, false}
 use mathlib.Core.List.{List}
 use native.Mathlib.Omega.{arith}
 use lib.ListN.{length}
 use Rattle.geometry.specs.declared.Geometry.{Geometry}
-use Rattle.geometry.specs.declared.Ring.{Ring}
 use Rattle.geometry.specs.Geometry.{ringOf}
 use Rattle.geometry.proofs.Laws.Allowed.{sizes}
-use Rattle.records.specs.Ring.{Holds, readPointer, nextIndex}
+use Rattle.records.specs.Ring.{Holds, nextIndex}
 use Rattle.records.specs.Unread.{SameToDriver}
-use Rattle.records.proofs.Laws.Unknown.{same-read-pointer, same-write-pointer, same-record, same-moved}
+use Rattle.records.proofs.Laws.Unknown.{same-moved}
 use Rattle.assembly.specs.declared.Driver.{Driver}
-use Rattle.driver.specs.declared.Oldest.{Oldest}
-use Rattle.driver.specs.declared.Oldest.the-variants.{Record, Refused}
-use Rattle.driver.specs.Reader.{oldestOf}
+use Rattle.reading.specs.declared.Oldest.{Oldest}
+use Rattle.reading.specs.declared.Oldest.the-variants.{Record, Refused}
+use Rattle.reading.specs.Oldest.{oldestOf}
+use Rattle.reading.proofs.Laws.Oldest.{same-oldest}
 use Rattle.driver.specs.Step.{isValid, StepResult, stepOn, stepOf}
 use Rattle.driver.proofs.Laws.Step.{valid, valid-holds}
-
-same-oldest : (ring : Ring) (left right : List ℕ) → 0 < ring .length → SameToDriver ring left right → oldestOf ring left ≡ oldestOf ring right
-unfolding oldestOf
-same-oldest ring left right some same =
-    rw (same-read-pointer ring left right same, same-write-pointer ring left right same, same-record ring left right same some (readPointer right))
 
 module _ (geometry : Geometry) (driver : Driver) (packet left right : List ℕ) (same : SameToDriver (ringOf geometry) left right) where
   Same : StepResult → StepResult → Type 0

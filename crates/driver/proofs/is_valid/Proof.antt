@@ -2,7 +2,7 @@
 use mathlib.Core.Path.{sym, _∙_}
 use borrow.Author.Tests.{not-true, not-false, eq-eqb, ne-eqb}
 use borrow.Author.Needs.{needs}
-use Rattle.reading.proofs.Laws.{sized}
+use Rattle.reading.proofs.Laws.Reading.{sized}
 use Rattle.driver.specs.Step.{isValid}
 use Rattle.driver.proofs.is_valid.Statement.{statement}
 use Rattle.driver.proofs.is_valid.Tie as tie

@@ -7,10 +7,10 @@ use Rattle.geometry.specs.declared.Ring.{Ring}
 use Rattle.geometry.specs.Geometry.{ringOf}
 use Rattle.records.specs.Ring.{Holds}
 use Rattle.records.proofs.Laws.Place.{pointers-inside}
-use Rattle.driver.specs.Reader.{oldestOf}
+use Rattle.reading.specs.Oldest.{oldestOf}
 use Rattle.driver.specs.Step.{isValid}
 use Rattle.driver.proofs.Laws.Answer.{answered}
-use Rattle.driver.proofs.Laws.Reader.{oldest-index}
+use Rattle.reading.proofs.Laws.Oldest.{oldest-index}
 use Rattle.driver.proofs.Laws.Step.{valid, valid-holds, step-invalid, step-refused, step-received}
 use borrow.Author.Needs.{needs}
 use Rattle.driver.proofs.step.Statement.{statement}

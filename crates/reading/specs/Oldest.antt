@@ -7,9 +7,9 @@ use Rattle.answers.specs.Answers.{done}
 use Rattle.geometry.specs.declared.Ring.{Ring}
 use Rattle.records.specs.Ring.{readPointer, writePointer}
 use Rattle.records.specs.Unread.{recordAt}
 use Rattle.reading.specs.Reading.{readingRefusal}
-use Rattle.driver.specs.declared.Oldest.{Oldest}
-use Rattle.driver.specs.declared.Oldest.the-variants.{Record, Refused}
+use Rattle.reading.specs.declared.Oldest.{Oldest}
+use Rattle.reading.specs.declared.Oldest.the-variants.{Record, Refused}
 
 -- The record at the read pointer, or the number of a refusal.
 unfoldable pub oldestOf : Ring → List ℕ → Oldest
