@@ -5,6 +5,7 @@
 -- included, in which no write switches the device off or moves the read pointer. After the list:
 --
 --   the driver has received a front part of the accepted packets, each whole, in order, under its slot;
+--   the rest is what it will make of the unread records;
 --   it has received all of them if the last call was a step that answered "nothing to read";
 --   a gap shows before an accepted packet exactly when one was refused for room since the one accepted before it, or since switch-on.
 --
@@ -27,13 +28,13 @@ use Rattle.driver.specs.Step.{isValid, stepOf}
 use Rattle.copy_out.specs.CopyOut.{copyOf}
 use Rattle.device.specs.Call.{isCall}
 use Rattle.delivery.specs.World.{World, Call, write, call}
-use Rattle.delivery.specs.Log.{Entry, Item, logOf, after, received, sent, numberIn, endsWithNothingToRead}
+use Rattle.delivery.specs.Log.{Entry, logOf, after, received, sent, numberIn, endsWithNothingToRead}
+use Rattle.delivery.specs.Pending.{pendingIn}
 use Rattle.delivery.specs.Premises.{IsFresh, AllBelong}
 
--- Front part, and all of them right after "nothing to read".
-pub record Delivered (log : List Entry) : Type 0 where
-  pub waiting : List Item
-  pub front : received log ++ waiting ≡ sent log
+-- Front part, with the rest in the ring, and all of them right after "nothing to read".
+pub record Delivered (geometry : Geometry) (world : World) (log : List Entry) : Type 0 where
+  pub front : received log ++ pendingIn geometry world ≡ sent log
   pub all : endsWithNothingToRead log ≡ true → received log ≡ sent log
 
 -- No state or geometry is refused.
@@ -47,7 +48,7 @@ NoBadIndex (entry ∷ rest) = (numberIn (entry .answered) ≡ badIndex → ⊥) 
 
 -- One claim about the list. It is about every front part of the list too, which is a list of its own.
 pub record AfterList (geometry : Geometry) (start : World) (calls : List Call) : Type 0 where
-  pub delivered : Delivered (logOf geometry start calls)
+  pub delivered : Delivered geometry (after geometry start calls) (logOf geometry start calls)
   pub state-holds : StateHolds geometry (after geometry start calls)
   pub no-bad-index : NoBadIndex (logOf geometry start calls)
 
@@ -78,7 +79,8 @@ CopyOutIndependent =
 abbrev pub LookupIndependent : Type 0
 LookupIndependent =
     (geometry : Geometry) (left right : List ℕ) (slot : ℕ) → SamePages geometry left right
-    → (lookupAnswer geometry left slot ≡ lookupAnswer geometry right slot) × (lookupPart geometry left slot ≡ lookupPart geometry right slot)
+    → (lookupAnswer geometry left slot ≡ lookupAnswer geometry right slot)
+    × (lookupPart geometry left slot ≡ lookupPart geometry right slot)
 
 pub record Demand3 : Type 0 where
   pub delivery : Delivery

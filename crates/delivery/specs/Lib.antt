@@ -1,4 +1,5 @@
 pub mod World
 pub mod Log
+pub mod Pending
 pub mod Premises
 pub mod Demand3

@@ -65,30 +65,42 @@ numberIn (numbered n) = n
 numberIn (valued v) = v .answer
 numberIn (stepped told buffer) = answerOf told
 
--- `refused`: a packet was refused for room since the one accepted before, or since switch-on.
-abbrev pub sentBy : Bool → Call → ℕ → List Item
-sentBy refused (read offset width) n = []
-sentBy refused (write offset width value) n = []
-sentBy refused (add slot entry) n = []
-sentBy refused (remove slot) n = []
-sentBy refused (packet slot events) n = cond (eqb n done) (gapIf refused ++ (whole slot (eventsOf events) ∷ [])) []
-sentBy refused step n = []
+-- What the log has to remember: whether a packet was refused for room since the one accepted before, or since switch-on.
+pub record Sender : Type 0 where
+  pub refused : Bool
 
-abbrev pub refusedAfter : Bool → Call → ℕ → Bool
-refusedAfter refused (read offset width) n = refused
-refusedAfter refused (write offset width value) n = refused
-refusedAfter refused (add slot entry) n = refused
-refusedAfter refused (remove slot) n = refused
-refusedAfter refused (packet slot events) n = cond (eqb n done) false (cond (eqb n noRoom) true refused)
-refusedAfter refused step n = refused
+abbrev pub atSwitchOn : Sender
+atSwitchOn = record { refused = false }
 
-abbrev pub sentFrom : Bool → List Entry → List Item
-sentFrom refused [] = []
-sentFrom refused (entry ∷ rest) =
-    sentBy refused (entry .did) (numberIn (entry .answered)) ++ sentFrom (refusedAfter refused (entry .did) (numberIn (entry .answered))) rest
+-- What a call adds to the sent log, and what is remembered after it.
+pub record Sends : Type 0 where
+  pub items : List Item
+  pub next : Sender
+
+abbrev pub nothing : Sender → Sends
+nothing sender = record { items = []; next = sender }
+
+abbrev pub sendsPacket : Sender → ℕ → List Event → ℕ → Sends
+sendsPacket sender slot events n =
+    cond (eqb n done) (record { items = gapIf (sender .refused) ++ (whole slot events ∷ []); next = record { refused = false } })
+    (cond (eqb n noRoom) (nothing (record { refused = true })) (nothing sender))
+
+abbrev pub sends : Sender → Call → ℕ → Sends
+sends sender (read offset width) n = nothing sender
+sends sender (write offset width value) n = nothing sender
+sends sender (add slot entry) n = nothing sender
+sends sender (remove slot) n = nothing sender
+sends sender (packet slot events) n = sendsPacket sender slot (eventsOf events) n
+sends sender step n = nothing sender
+
+abbrev pub sentFrom : Sender → List Entry → List Item
+sentFrom sender [] = []
+sentFrom sender (entry ∷ rest) =
+    let now = sends sender (entry .did) (numberIn (entry .answered)) in
+    now .items ++ sentFrom (now .next) rest
 
 abbrev pub sent : List Entry → List Item
-sent log = sentFrom false log
+sent log = sentFrom atSwitchOn log
 
 -- ---- the last call was a step that answered 11
 

@@ -6,19 +6,21 @@ use Rattle.geometry.specs.declared.Geometry.{Geometry}
 use Rattle.driver.proofs.Laws.Unknown.{same-step}
 use Rattle.copy_out.proofs.Laws.Unknown.{same-copy}
 use Rattle.entries.proofs.Laws.Lookup.{same-lookup}
+use Rattle.pending.proofs.Laws.Pending.{pending-is}
 use Rattle.delivery.specs.World.{World, Call, read, write, add, remove, packet, step, call}
-use Rattle.delivery.specs.Log.{Item, Entry, logOf, after, receivedIn, received, sentFrom, sent, endsWithNothingToReadFrom}
+use Rattle.delivery.specs.Log.{Item, Entry, Sender, logOf, after, receivedIn, received, sentFrom, sent, endsWithNothingToReadFrom}
+use Rattle.delivery.specs.Pending.{driverReader}
 use Rattle.delivery.specs.Premises.{Belongs, AllBelong}
 use Rattle.delivery.specs.Demand3.{NoBadIndex, Delivery, Demand3}
-use Rattle.delivery.proofs.Laws.Invariant.{Invariant, Kept}
+use Rattle.delivery.proofs.Laws.Invariant.{Invariant, Kept, senderOf}
 use Rattle.delivery.proofs.Laws.Access.{read-kept, write-kept}
 use Rattle.delivery.proofs.Laws.Plug.{add-kept, remove-kept}
 use Rattle.delivery.proofs.Laws.Packet.{packet-kept}
 use Rattle.delivery.proofs.Laws.Step.{valid, step-kept}
 use Rattle.delivery.proofs.Laws.Start.{start-holds, start-not-lost}
 
-kept : (geometry : Geometry) (world : World) {waiting : List Item} → Invariant geometry world waiting → (next : Call) → Belongs geometry world next
-    → Kept geometry world waiting next (call geometry world next)
+kept : (geometry : Geometry) (world : World) {pending : List Item} → Invariant geometry world pending
+    → (next : Call) → Belongs geometry world next → Kept geometry world pending next (call geometry world next)
 kept geometry world h (read offset width) ok = read-kept geometry world h offset width
 kept geometry world h (write offset width value) ok = write-kept geometry world h offset width value ok
 kept geometry world h (add slot entry) ok = add-kept geometry world h slot entry
@@ -26,59 +28,66 @@ kept geometry world h (remove slot) ok = remove-kept geometry world h slot
 kept geometry world h (packet slot events) ok = packet-kept geometry world h slot events ok
 kept geometry world h step ok = step-kept geometry world h
 
--- After a list of calls, from a world in which something is still waited for.
-record Along (geometry : Geometry) (world : World) (waiting : List Item) (calls : List Call) : Type 0 where
+-- After a list of calls, from a world in which something is pending.
+record Along (geometry : Geometry) (world : World) (pending : List Item) (calls : List Call) : Type 0 where
   still : List Item
   invariant : Invariant geometry (after geometry world calls) still
-  log : received (logOf geometry world calls) ++ still ≡ waiting ++ sentFrom (world .device .lost) (logOf geometry world calls)
-  dry : (before : Bool) → (before ≡ true → waiting ≡ []) → endsWithNothingToReadFrom before (logOf geometry world calls) ≡ true → still ≡ []
+  log : received (logOf geometry world calls) ++ still ≡ pending ++ sentFrom (senderOf (world .device)) (logOf geometry world calls)
+  dry : (before : Bool) → (before ≡ true → pending ≡ []) → endsWithNothingToReadFrom before (logOf geometry world calls) ≡ true → still ≡ []
   no-bad-index : NoBadIndex (logOf geometry world calls)
 
 -- the log of a call, then that of the rest
-both-logs : (waiting heard more still wait new : List Item) {refused lost : Bool} (log : List Entry) → more ++ still ≡ wait ++ sentFrom lost log → heard ++ wait ≡ waiting ++ new → lost ≡ refused
-    → (heard ++ more) ++ still ≡ waiting ++ (new ++ sentFrom refused log)
-both-logs waiting heard more still wait new {refused} {lost} log later now same =
+both-logs : (pending heard more still between new : List Item) {next sender : Sender} (log : List Entry)
+    → more ++ still ≡ between ++ sentFrom sender log → heard ++ between ≡ pending ++ new → sender ≡ next
+    → (heard ++ more) ++ still ≡ pending ++ (new ++ sentFrom next log)
+both-logs pending heard more still between new {next} {sender} log later now same =
     append-assoc heard more still
-    ∙ ap (λ (l : List Item). heard ++ l) later
-    ∙ sym (append-assoc heard wait (sentFrom lost log))
-    ∙ ap (λ (l : List Item). l ++ sentFrom lost log) now
-    ∙ append-assoc waiting new (sentFrom lost log)
-    ∙ ap (λ (b : Bool). waiting ++ (new ++ sentFrom b log)) same
+    ∙ ap (λ (items : List Item). heard ++ items) later
+    ∙ sym (append-assoc heard between (sentFrom sender log))
+    ∙ ap (λ (items : List Item). items ++ sentFrom sender log) now
+    ∙ append-assoc pending new (sentFrom sender log)
+    ∙ ap (λ (s : Sender). pending ++ (new ++ sentFrom s log)) same
 
-along : (geometry : Geometry) (calls : List Call) (world : World) {waiting : List Item} → Invariant geometry world waiting → AllBelong geometry world calls
-    → Along geometry world waiting calls
-along geometry [] world {waiting} h ok = record {
-  still = waiting;
+along : (geometry : Geometry) (calls : List Call) (world : World) {pending : List Item} → Invariant geometry world pending
+    → AllBelong geometry world calls → Along geometry world pending calls
+along geometry [] world {pending} h ok = record {
+  still = pending;
   invariant = h;
-  log = sym (append-nil waiting);
+  log = sym (append-nil pending);
   dry = λ before none ends. none ends;
   no-bad-index = tt;
 }
-along geometry (next ∷ rest) world {waiting} h ok =
+along geometry (next ∷ rest) world {pending} h ok =
     let result = call geometry world next in
     let k = kept geometry world h next (ok .0) in
     let a = along geometry rest (result .world) (k .invariant) (ok .1) in
+    let log : List Entry = logOf geometry (result .world) rest in
     record {
       still = a .still;
       invariant = a .invariant;
-      log = both-logs waiting (receivedIn (result .answer)) (received (logOf geometry (result .world) rest)) (a .still) (k .still) _ (logOf geometry (result .world) rest) (a .log) (k .log) (k .flag);
+      log = both-logs pending (receivedIn (result .answer)) (received log) (a .still) (k .still) _ log (a .log) (k .log) (k .sender);
       dry = λ before none ends. a .dry _ (k .dry) ends;
       no-bad-index = (k .not-ten, a .no-bad-index);
     }
 
 pub delivery : Delivery
-delivery geometry ok world fresh off offset width value on calls allowed-calls =
+delivery geometry ok world fresh off offset width value on calls belong =
     let start = call geometry world (write offset width value) .world in
-    let a = along geometry calls start (start-holds geometry world fresh off offset width value on) allowed-calls in
-    let log = logOf geometry start calls in
-    let whole-log : received log ++ a .still ≡ sent log = a .log ∙ ap (λ (lost : Bool). sentFrom lost log) (start-not-lost geometry world fresh off offset width value on) in
+    let a = along geometry calls start (start-holds geometry world fresh off offset width value on) belong in
+    let log : List Entry = logOf geometry start calls in
+    let nothing-lost = start-not-lost geometry world fresh off offset width value on in
+    let whole-log : received log ++ a .still ≡ sent log
+    = a .log ∙ ap (λ (lost : Bool). sentFrom (record { refused = lost }) log) nothing-lost in
+    let with : List Item → List Item = λ items. received log ++ items in
     record {
       delivered = record {
-        waiting = a .still;
-        front = whole-log;
-        all = λ ends. sym (append-nil (received log)) ∙ ap (λ (l : List Item). received log ++ l) (sym (a .dry false (λ z. refl) ends)) ∙ whole-log;
+        front = ap with (pending-is (driverReader geometry) (a .invariant .ahead)) ∙ whole-log;
+        all = λ ends. sym (append-nil (received log)) ∙ ap with (sym (a .dry false (λ z. refl) ends)) ∙ whole-log;
       };
-      state-holds = record { device-holds = a .invariant .called; driver-holds = valid geometry (after geometry start calls) (a .invariant) };
+      state-holds = record {
+        device-holds = a .invariant .called;
+        driver-holds = valid geometry (after geometry start calls) (a .invariant);
+      };
       no-bad-index = a .no-bad-index;
     }
 

@@ -19,12 +19,13 @@ use Rattle.assembly.specs.declared.Driver.{Driver}
 use Rattle.assembly.specs.declared.Kind.{Kind}
 use Rattle.assembly.specs.declared.Kind.the-variants as kind
 use Rattle.assembly.specs.Kind.{devKind, kindOf}
-use Rattle.assembly.specs.Transition.{withOneMore, spoiled, joined, reported, withoutSlot, ended, moved, received, receive}
+use Rattle.assembly.specs.Transition.{withOneMore, spoiled, joined, reported, withoutSlot, ended, moved, received}
 use Rattle.assembly.specs.Collect.{packetLength, collected, Collector, eventsHeld, collect}
 use Rattle.assembly.proofs.Laws.Held.{moved-held, without-held}
 use Rattle.assembly.proofs.Laws.Collect.{none-joined, joined-length, joined-events}
 use Rattle.hotplug_remove.specs.Remove.{currentWithout}
 use Rattle.delivery.specs.Log.{Item, gap, whole, toldBy}
+use Rattle.delivery.specs.Pending.{give}
 
 -- These events are held under a slot, and nothing is spoiled, too long or ignored.
 pub record Holding (slot : ℕ) (events : List Event) (collector : Collector) : Type 0 where
@@ -35,10 +36,6 @@ pub record Holding (slot : ℕ) (events : List Event) (collector : Collector) : 
   pub not-overlong : collector .driver .overlong ≡ false
   pub not-spoiled : collector .driver .spoiled ≡ false
   pub not-ignoring : collector .driver .ignoring ≡ false
-
--- What the driver gives for a record.
-abbrev pub give : Geometry → Event → Collector → List Item
-give geometry event collector = toldBy (receive geometry event (collector .driver) .told) (collect geometry event collector .packet)
 
 -- Over one record the driver gives these items, and goes on holding these events.
 pub record Leads (geometry : Geometry) (event : Event) (collector : Collector) (items : List Item) (slot : ℕ) (events : List Event) : Type 0 where

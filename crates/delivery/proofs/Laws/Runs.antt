@@ -1,6 +1,6 @@
 -- Runs of the driver over the records that calls put.
 use Prim.Native.Nat.{ℕ, _+_, _≤_, _<_}
-use mathlib.Core.Path.{_≡_, refl, sym, ap, _∙_}
+use mathlib.Core.Path.{_≡_, sym, ap, _∙_}
 use mathlib.Core.Bool.{Bool, true, false, false≢true}
 use mathlib.Core.List.{List, [], _∷_, _++_, append-nil, append-assoc}
 use native.Mathlib.Omega.{arith}
@@ -17,21 +17,20 @@ use Rattle.entries.specs.Offer.{isOffered, offersCode}
 use Rattle.assembly.specs.Collect.{Collector, collect}
 use Rattle.assembly.specs.declared.Kind.the-variants as kind
 use Rattle.assembly.specs.Kind.{kindOf}
-use Rattle.assembly.specs.Run.{Run}
-use Rattle.assembly.proofs.Laws.Run.{run-append, run-none}
 use Rattle.packet_records.specs.Packet.{lostRecords, setRecords, recordsFor}
 use Rattle.packets.specs.Packet.{allOffered}
+use Rattle.pending.proofs.Laws.Runs as runs
 use Rattle.delivery.specs.Log.{Item, whole, gapIf}
-use Rattle.delivery.proofs.Laws.Holding.{Holding, Leads, give, dropping, join, report, drop-gives, drop-next, report-gap, set-slot}
+use Rattle.delivery.specs.Pending.{give, driverReader}
+use Rattle.delivery.proofs.Laws.Holding.{Holding, Leads, dropping, join, report, drop-gives, drop-next, report-gap, set-slot}
 
 -- Over these records the driver gives these items, and ends holding these events.
-pub record Runs (geometry : Geometry) (collector : Collector) (records : List Event) (items : List Item) (slot : ℕ) (events : List Event) : Type 0 where
-  pub end : Collector
-  pub run : Run (collect geometry) (give geometry) collector records items end
-  pub held : Holding slot events end
+abbrev pub Runs : Geometry → Collector → List Event → List Item → ℕ → List Event → Type 0
+Runs geometry collector records items slot events = runs.Runs (driverReader geometry) collector records items (Holding slot events)
 
 -- An offered event is no record of the device's own.
-pub offered-other : (geometry : Geometry) (entry : List ℕ) (event : Event) → isOffered entry event ≡ true → kindOf geometry event ≡ kind.Other
+pub offered-other : (geometry : Geometry) (entry : List ℕ) (event : Event) → isOffered entry event ≡ true
+    → kindOf geometry event ≡ kind.Other
 unfolding isOffered offersCode kindOf
 offered-other geometry entry event h =
     let code = both (offersCode entry (event .kind) (event .code)) _ h .0 in
@@ -44,66 +43,75 @@ offered-other geometry entry event h =
     ]
 
 module _ (geometry : Geometry) where
-  pub none : {collector : Collector} {slot : ℕ} {events : List Event} → Holding slot events collector → Runs geometry collector [] [] slot events
-  none {collector} h = record { end = collector; run = run-none (collect geometry) (give geometry) collector; held = h }
+  pub none : {collector : Collector} {slot : ℕ} {events : List Event} → Holding slot events collector
+      → Runs geometry collector [] [] slot events
+  none h = runs.none (driverReader geometry) h
 
-  pub one : {event : Event} {collector : Collector} {items : List Item} {slot : ℕ} {events : List Event} → Leads geometry event collector items slot events
-      → Runs geometry collector (event ∷ []) items slot events
-  one {event} {collector} {items} leads = record {
-    end = collect geometry event collector;
-    run = record { ends = refl; gives = append-nil (give geometry event collector) ∙ leads .gives };
-    held = leads .held;
-  }
+  pub one : {event : Event} {collector : Collector} {items : List Item} {slot : ℕ} {events : List Event}
+      → Leads geometry event collector items slot events → Runs geometry collector (event ∷ []) items slot events
+  one leads = runs.one (driverReader geometry) (leads .gives) (leads .held)
 
   pub then : {collector : Collector} {first second : List Event} {some more : List Item} {slot slot′ : ℕ} {events events′ : List Event}
-      → Runs geometry collector first some slot events → ((middle : Collector) → Holding slot events middle → Runs geometry middle second more slot′ events′)
+      → Runs geometry collector first some slot events
+      → ((middle : Collector) → Holding slot events middle → Runs geometry middle second more slot′ events′)
       → Runs geometry collector (first ++ second) (some ++ more) slot′ events′
-  then left right =
-      let other = right (left .end) (left .held) in
-      record { end = other .end; run = run-append (collect geometry) (give geometry) (left .run) (other .run); held = other .held }
+  then left right = runs.then (driverReader geometry) left right
 
   -- ---- a packet
 
   -- offered events are collected
-  join-then : (entry : List ℕ) {slot : ℕ} (event : Event) (rest : List Event) {collector : Collector} {events : List Event} → Holding slot events collector → isOffered entry event ≡ true
-      → EventFits event → length events < 32 → ((middle : Collector) → Holding slot (events ++ (event ∷ [])) middle → Runs geometry middle rest [] slot ((events ++ (event ∷ [])) ++ rest))
+  join-then : (entry : List ℕ) {slot : ℕ} (event : Event) (rest : List Event) {collector : Collector} {events : List Event}
+      → Holding slot events collector → isOffered entry event ≡ true → EventFits event → length events < 32
+      → ((middle : Collector) → Holding slot (events ++ (event ∷ [])) middle
+      → Runs geometry middle rest [] slot ((events ++ (event ∷ [])) ++ rest))
       → Runs geometry collector (event ∷ rest) [] slot (events ++ (event ∷ rest))
   join-then entry event rest {events = events} h ok fits few more =
-      rw (sym (append-assoc events (event ∷ []) rest)) (then (one (join geometry event (offered-other geometry entry event ok) fits h few)) more)
+      let other = offered-other geometry entry event ok in
+      rw (sym (append-assoc events (event ∷ []) rest)) (then (one (join geometry event other fits h few)) more)
 
-  fewer : (event : Event) (events rest : List Event) → length events + length (event ∷ rest) ≤ 32 → length (events ++ (event ∷ [])) + length rest ≤ 32
+  fewer : (event : Event) (events rest : List Event) → length events + length (event ∷ rest) ≤ 32
+      → length (events ++ (event ∷ [])) + length rest ≤ 32
   fewer event events rest few = rw (length-append events (event ∷ [])) (omega arith)
 
-  offered-both : (entry : List ℕ) (event : Event) (rest : List Event) → allOffered entry (event ∷ rest) ≡ true → (isOffered entry event ≡ true) × (allOffered entry rest ≡ true)
+  offered-both : (entry : List ℕ) (event : Event) (rest : List Event) → allOffered entry (event ∷ rest) ≡ true
+      → (isOffered entry event ≡ true) × (allOffered entry rest ≡ true)
   unfolding allOffered
   offered-both entry event rest ok = both (isOffered entry event) (allOffered entry rest) ok
 
-  joins : (entry : List ℕ) {slot : ℕ} (more : List Event) {collector : Collector} {events : List Event} → Holding slot events collector → allOffered entry more ≡ true
-      → AllFit more → length events + length more ≤ 32 → Runs geometry collector more [] slot (events ++ more)
+  joins : (entry : List ℕ) {slot : ℕ} (more : List Event) {collector : Collector} {events : List Event} → Holding slot events collector
+      → allOffered entry more ≡ true → AllFit more → length events + length more ≤ 32
+      → Runs geometry collector more [] slot (events ++ more)
   joins entry {slot} [] {collector} {events} h ok fits few = rw (append-nil events) (none h)
   joins entry {slot} (event ∷ rest) {collector} {events} h ok fits few =
       let test = offered-both entry event rest ok in
-      join-then entry event rest h (test .0) (fits .0) (omega arith) (λ middle held. joins entry rest held (test .1) (fits .1) (fewer event events rest few))
+      join-then entry event rest h (test .0) (fits .0) (omega arith)
+      (λ middle held. joins entry rest held (test .1) (fits .1) (fewer event events rest few))
 
   -- SYN_DROPPED and SYN_REPORT
-  lost-runs : (lost : Bool) {collector : Collector} {slot : ℕ} → Holding slot [] collector → Runs geometry collector (lostRecords lost) (gapIf lost) slot []
+  lost-runs : (lost : Bool) {collector : Collector} {slot : ℕ} → Holding slot [] collector
+      → Runs geometry collector (lostRecords lost) (gapIf lost) slot []
   lost-runs false h = none h
-  lost-runs true {collector} h = record {
-    end = collect geometry (synRecord SYN-REPORT) (dropping collector);
-    run = record {
-      ends = ap (collect geometry (synRecord SYN-REPORT)) (drop-next geometry collector);
-      gives = rw (drop-gives geometry collector) (append-nil _ ∙ ap (give geometry (synRecord SYN-REPORT)) (drop-next geometry collector) ∙ report-gap geometry h .gives);
-    };
-    held = report-gap geometry h .held;
-  }
+  lost-runs true {collector} h =
+      let dropped = drop-next geometry collector in
+      record {
+        end = collect geometry (synRecord SYN-REPORT) (dropping collector);
+        run = record {
+          ends = ap (collect geometry (synRecord SYN-REPORT)) dropped;
+          gives = rw (drop-gives geometry collector)
+              (append-nil _ ∙ ap (give geometry (synRecord SYN-REPORT)) dropped ∙ report-gap geometry h .gives);
+        };
+        settles = report-gap geometry h .held;
+      }
 
-  set-runs : (current slot : ℕ) {collector : Collector} → slot < slotCount geometry → Holding current [] collector → Runs geometry collector (setRecords current slot) [] slot []
+  set-runs : (current slot : ℕ) {collector : Collector} → slot < slotCount geometry → Holding current [] collector
+      → Runs geometry collector (setRecords current slot) [] slot []
   set-runs current slot low h = elim (ℕ-discrete current slot) [
     | yes e ↦ rw (eq-eqb current slot e) (none (rw (← e) h))
     | no n ↦ rw (ne-eqb current slot n) (one (set-slot geometry slot low h))
   ]
 
-  pub packet-runs : (entry : List ℕ) (lost : Bool) (current slot : ℕ) (events : List Event) {collector : Collector} → Holding current [] collector → slot < slotCount geometry
+  pub packet-runs : (entry : List ℕ) (lost : Bool) (current slot : ℕ) (events : List Event) {collector : Collector}
+      → Holding current [] collector → slot < slotCount geometry
       → allOffered entry events ≡ true → AllFit events → 0 < length events → length events ≤ 32
       → Runs geometry collector (recordsFor lost current slot events) (gapIf lost ++ (whole slot events ∷ [])) slot []
   packet-runs entry lost current slot events h low ok fits some few =

@@ -1,12 +1,13 @@
--- The access that switches the device on makes the invariant hold, with nothing to wait for.
-use Prim.Native.Nat.{ℕ, zero, suc, _+_, _≤_, _<_}
+-- The access that switches the device on makes the invariant hold, with nothing pending.
+use Prim.Native.Nat.{ℕ, zero, suc, _+_, _-_, _≤_, _<_}
 use mathlib.Core.Path.{_≡_, refl, sym, ap, _∙_}
 use mathlib.Core.Bool.{Bool, true, false, not, _&&_, false≢true}
-use mathlib.Core.List.{List, [], _++_, map}
+use mathlib.Core.List.{List, [], map}
 use native.Mathlib.Omega.{arith}
 use lib.Dec.{eqb}
 use lib.ListN.{length}
-use borrow.Author.Tests.{eqb-true}
+use borrow.Author.Tests.{eqb-true, le-leb}
+use Rattle.answers.proofs.Choice.{either}
 use Rattle.words.specs.Words.{u32Bytes}
 use Rattle.copying.proofs.Laws.Overwrite.{overwrite-length, overwrite-before}
 use Rattle.words.proofs.Laws.Word.{agree-u32, u32-back}
@@ -17,19 +18,16 @@ use Rattle.geometry.proofs.Laws.Allowed.{sizes}
 use Rattle.records.specs.declared.Event.{Event}
 use Rattle.records.specs.Event.{eventsFrom}
 use Rattle.records.specs.Codes.{DEV-CONF, noSlot, devRecord}
-use Rattle.records.specs.Ring.{Holds, readPointer, writePointer, withReadPointer}
+use Rattle.records.specs.Ring.{Holds, readPointer, writePointer, withReadPointer, hasRoom}
 use Rattle.records.specs.Put.{putRecords, indexAfter}
-use Rattle.records.specs.Unread.{unread}
 use Rattle.records.proofs.Laws.Index.{unread-self}
 use Rattle.records.proofs.Laws.Place.{pointers-inside}
-use Rattle.records.proofs.Laws.PutAll.{puts-read-pointer, puts-write-pointer, puts-unread}
-use Rattle.records.proofs.Laws.Unread.{none-unread}
 use Rattle.assembly.specs.Collect.{Collector}
 use Rattle.driver.specs.Step.{isDriver}
 use Rattle.device.specs.declared.Device.{Device}
 use Rattle.device.proofs.Laws.Call.{Call}
 use Rattle.access.specs.declared.Place.{Place}
-use Rattle.access.specs.declared.Place.the-variants.{Magic, Rev, Control, EventSize, Npages, Acceleration, Isr, ConfSize, ClientRev, ReadPtr, EventArea, EntryPage, Nothing}
+use Rattle.access.specs.declared.Place.the-variants as place
 use Rattle.access.specs.Place.{placeOf}
 use Rattle.access.specs.Access.{accessAnswer}
 use Rattle.switch_on.specs.SwitchOn.{WriteResult, takenFrom, startRecords, clearedPointers, switchedOn}
@@ -37,9 +35,10 @@ use Rattle.registers.specs.Write.{controlOf, clientRevOf, effectOf, writeOf}
 use Rattle.access.proofs.Laws.Access.{granted}
 use Rattle.switch_on.proofs.Laws.SwitchOn.{start-fits, always-starts, start-events-fit}
 use Rattle.registers.proofs.Laws.Keeps.{write-keeps, write-size}
+use Rattle.pending.proofs.Laws.Pending.{Pending, pending-none, pending-put}
 use Rattle.delivery.specs.World.{World, write, call}
+use Rattle.delivery.specs.Pending.{driverReader}
 use Rattle.delivery.specs.Premises.{IsFresh}
-use Rattle.delivery.proofs.Laws.Choice.{either}
 use Rattle.delivery.proofs.Laws.State.{called-with, rules-device}
 use Rattle.delivery.proofs.Laws.Holding.{Holding, conf, reset-all}
 use Rattle.delivery.proofs.Laws.Runs.{Runs, none, one, then}
@@ -54,11 +53,15 @@ module _ (geometry : Geometry) where
   conf-runs taken slot zero low held = none geometry held
   conf-runs taken slot (suc count) low {collector} held =
       either (λ (slots : List ℕ). Runs geometry collector (map (devRecord DEV-CONF) slots) [] noSlot []) (bit taken slot)
-      (λ set. then geometry (one geometry (conf geometry slot (omega arith) held)) (λ middle next. conf-runs taken (suc slot) count (omega arith) next))
+      (λ set. then geometry (one geometry (conf geometry slot (omega arith) held))
+      (λ middle next. conf-runs taken (suc slot) count (omega arith) next))
       (λ free. conf-runs taken (suc slot) count (omega arith) held)
 
-  start-runs : (device : Device) {collector : Collector} → allowed geometry ≡ true → Holding noSlot [] collector → Runs geometry collector (startRecords geometry device) [] noSlot []
-  start-runs device ok held = then geometry (one geometry (reset-all geometry ok held)) (λ middle next. conf-runs (device .taken) 0 (slotCount geometry) (omega arith) next)
+  start-runs : (device : Device) {collector : Collector} → allowed geometry ≡ true → Holding noSlot [] collector
+      → Runs geometry collector (startRecords geometry device) [] noSlot []
+  start-runs device ok held =
+      then geometry (one geometry (reset-all geometry ok held))
+      (λ middle next. conf-runs (device .taken) 0 (slotCount geometry) (omega arith) next)
 
   fresh-driver : (collector : Collector) → IsFresh collector → isDriver geometry (collector .driver) ≡ true
   unfolding isDriver
@@ -90,7 +93,8 @@ module _ (area : List ℕ) (room : 8 ≤ length area) where
 
   cleared-read : readPointer (clearedPointers area) ≡ 0
   cleared-read =
-      agree-u32 (clearedPointers area) (withReadPointer area 0) 0 (overwrite-before (withReadPointer area 0) 4 (u32Bytes 0) 0 4 (omega (arith, half)) (omega arith))
+      agree-u32 (clearedPointers area) (withReadPointer area 0) 0
+      (overwrite-before (withReadPointer area 0) 4 (u32Bytes 0) 0 4 (omega (arith, half)) (omega arith))
       ∙ u32-back area 0 0 (omega arith) (omega arith)
 
 -- ---- the access
@@ -120,27 +124,31 @@ module _ (geometry : Geometry) (device : Device) (area : List ℕ) (ok : allowed
       either OnlyOn (bit value 0 && (eqb (device .«client_rev») 2 && not (device .on)))
       (λ asked on.
       let start = always-starts geometry device ok area (bit value 1) in
-      record { interrupts = bit value 1; device-after = ap (λ (result : WriteResult). result .outcome .device) start; area-after = ap (λ (result : WriteResult). result .area) start })
+      record {
+        interrupts = bit value 1;
+        device-after = ap (λ (result : WriteResult). result .outcome .device) start;
+        area-after = ap (λ (result : WriteResult). result .area) start;
+      })
       (λ kept. stays-off _ (not-asked (bit value 0) (eqb (device .«client_rev») 2) kept))
 
   client-rev-off : (value : ℕ) → clientRevOf device value .on ≡ false
   unfolding clientRevOf
   client-rev-off value = either (λ (after : Device). after .on ≡ false) (device .on) (λ on. off) (λ still. off)
 
-  effect-switches : (value : ℕ) (place : Place) → OnlyOn (effectOf geometry device area value place)
-  effect-switches value Magic = stays-off _ off
-  effect-switches value Rev = stays-off _ off
-  effect-switches value Control = control-switches value
-  effect-switches value EventSize = stays-off _ off
-  effect-switches value Npages = stays-off _ off
-  effect-switches value Acceleration = stays-off _ off
-  effect-switches value Isr = stays-off _ off
-  effect-switches value ConfSize = stays-off _ off
-  effect-switches value ClientRev = stays-off _ (client-rev-off value)
-  effect-switches value ReadPtr = stays-off _ off
-  effect-switches value EventArea = stays-off _ off
-  effect-switches value EntryPage = stays-off _ off
-  effect-switches value Nothing = stays-off _ off
+  effect-switches : (value : ℕ) (at : Place) → OnlyOn (effectOf geometry device area value at)
+  effect-switches value place.Magic = stays-off _ off
+  effect-switches value place.Rev = stays-off _ off
+  effect-switches value place.Control = control-switches value
+  effect-switches value place.EventSize = stays-off _ off
+  effect-switches value place.Npages = stays-off _ off
+  effect-switches value place.Acceleration = stays-off _ off
+  effect-switches value place.Isr = stays-off _ off
+  effect-switches value place.ConfSize = stays-off _ off
+  effect-switches value place.ClientRev = stays-off _ (client-rev-off value)
+  effect-switches value place.ReadPtr = stays-off _ off
+  effect-switches value place.EventArea = stays-off _ off
+  effect-switches value place.EntryPage = stays-off _ off
+  effect-switches value place.Nothing = stays-off _ off
 
   write-switches : (pageSize offset width value : ℕ) → OnlyOn (writeOf geometry device area pageSize offset width value)
   unfolding writeOf
@@ -152,54 +160,75 @@ module _ (geometry : Geometry) (device : Device) (area : List ℕ) (ok : allowed
 was-call : (geometry : Geometry) (device : Device) (area : List ℕ) (pageSize offset width value : ℕ) → device .on ≡ false
     → writeOf geometry device area pageSize offset width value .outcome .device .on ≡ true → Call geometry device (length area) pageSize
 unfolding writeOf
-was-call geometry device area pageSize offset width value off on = go (eqb (accessAnswer geometry device (length area) pageSize true offset width) 0) refl
+was-call geometry device area pageSize offset width value off on =
+    go (eqb (accessAnswer geometry device (length area) pageSize true offset width) 0) refl
   where
-    go : (test : Bool) → eqb (accessAnswer geometry device (length area) pageSize true offset width) 0 ≡ test → Call geometry device (length area) pageSize
+    go : (test : Bool) → eqb (accessAnswer geometry device (length area) pageSize true offset width) 0 ≡ test
+        → Call geometry device (length area) pageSize
     go true done = granted geometry device (length area) pageSize true offset width (eqb-true _ 0 done) .is-call
     go false refused = absurd (false≢true (sym off ∙ rw refused at on))
 
 -- ---- the invariant
 
-module _ (geometry : Geometry) (world : World) (fresh : IsFresh (world .collector)) (off : world .device .on ≡ false) (offset width value : ℕ) where
-  -- the first records stand in the ring, and they alone
-  first-unread : Call geometry (world .device) (length (world .area)) (length (world .page))
-      → let records = startRecords geometry (world .device) in
-      unread (ringOf geometry) (putRecords (ringOf geometry) 0 records (clearedPointers (world .area))) 0 (indexAfter (ringOf geometry) 0 records) ≡ records
-  first-unread c =
-      let ok = c .is-allowed in
-      let low : 0 < ringLength geometry = omega (arith, sizes geometry ok .ring-low) in
+module _ (geometry : Geometry) (world : World) (fresh : IsFresh (world .collector)) (off : world .device .on ≡ false) where
+  -- an empty ring: both pointers were made 0
+  empty : Call geometry (world .device) (length (world .area)) (length (world .page))
+      → Pending (driverReader geometry) (ringOf geometry) (clearedPointers (world .area)) 0 (world .collector) [] (Holding noSlot [])
+  empty c =
+      let low : 0 < ringLength geometry = omega (arith, sizes geometry (c .is-allowed) .ring-low) in
       let room = pointers-inside (length (world .area)) (ringOf geometry) (c .holds) in
-      let empty = unread-self (ringOf geometry) 0 low in
-      puts-unread (ringOf geometry) 0 0 (startRecords geometry (world .device)) (clearedPointers (world .area)) (rw (cleared-length (world .area) room) (c .holds)) low low
-      (start-events-fit geometry (world .device) ok) (omega (arith, empty, start-fits geometry (world .device) ok))
-      ∙ ap (λ (l : List Event). l ++ startRecords geometry (world .device)) (none-unread (ringOf geometry) (clearedPointers (world .area)) 0 low)
+      pending-none (driverReader geometry) (ringOf geometry) (clearedPointers (world .area)) 0 low
+      (cleared-read (world .area) room) (cleared-write (world .area) room) (fresh-holding (world .collector) fresh)
 
-  pub start-holds : call geometry world (write offset width value) .world .device .on ≡ true → Invariant geometry (call geometry world (write offset width value) .world) []
-  unfolding call OnlyOn
-  start-holds on =
-      let c = was-call geometry (world .device) (world .area) (length (world .page)) offset width value off on in
-      let s = write-switches geometry (world .device) (world .area) (c .is-allowed) off (length (world .page)) offset width value on in
+  -- the first records are put
+  started : Call geometry (world .device) (length (world .area)) (length (world .page))
+      → Pending (driverReader geometry) (ringOf geometry)
+      (putRecords (ringOf geometry) 0 (startRecords geometry (world .device)) (clearedPointers (world .area)))
+      (indexAfter (ringOf geometry) 0 (startRecords geometry (world .device))) (world .collector) [] (Holding noSlot [])
+  started c =
       let records : List Event = startRecords geometry (world .device) in
       let cleared : List ℕ = clearedPointers (world .area) in
-      let rules = write-keeps geometry (world .device) (rules-device geometry (world .device) (c .keeps)) (world .area) (length (world .page)) offset width value in
       let low : 0 < ringLength geometry = omega (arith, sizes geometry (c .is-allowed) .ring-low) in
       let room = pointers-inside (length (world .area)) (ringOf geometry) (c .holds) in
       let holds : Holds (length cleared) (ringOf geometry) = rw (cleared-length (world .area) room) (c .holds) in
-      let read-zero : readPointer (putRecords (ringOf geometry) 0 records cleared) ≡ 0 = puts-read-pointer (ringOf geometry) 0 records cleared holds low ∙ cleared-read (world .area) room in
-      record {
-        called = rw (write-size geometry (world .device) (world .area) (length (world .page)) offset width value) (called-with geometry _ c rules);
-        on = on;
-        packet-size = fresh .size;
-        is-driver = fresh-driver geometry (world .collector) fresh;
-        read-inside = rw (s .area-after, read-zero) low;
-        same-write = rw (s .area-after, s .device-after) (puts-write-pointer (ringOf geometry) 0 records cleared holds low (cleared-write (world .area) room));
-        ahead = rw (s .area-after, s .device-after, read-zero, first-unread c) (start-runs geometry (world .device) (c .is-allowed) (fresh-holding (world .collector) fresh));
-      }
+      let few = start-fits geometry (world .device) (c .is-allowed) in
+      let fits : hasRoom (ringOf geometry) (readPointer cleared) 0 (length records) ≡ true
+      = rw (cleared-read (world .area) room, unread-self (ringOf geometry) 0 low)
+      (le-leb (0 + length records) (ringLength geometry - 1) (omega (arith, few))) in
+      pending-put (driverReader geometry) (empty c) records [] holds (start-events-fit geometry (world .device) (c .is-allowed)) fits
+      (λ middle held. start-runs geometry (world .device) (c .is-allowed) held)
 
-  -- nothing was refused yet
-  pub start-not-lost : call geometry world (write offset width value) .world .device .on ≡ true → call geometry world (write offset width value) .world .device .lost ≡ false
-  unfolding call OnlyOn
-  start-not-lost on =
-      let c = was-call geometry (world .device) (world .area) (length (world .page)) offset width value off on in
-      let s = write-switches geometry (world .device) (world .area) (c .is-allowed) off (length (world .page)) offset width value on in
-      rw (s .device-after)
+  module _ (offset width value : ℕ) where
+    abbrev switched : WriteResult
+    switched = writeOf geometry (world .device) (world .area) (length (world .page)) offset width value
+
+    called : switched .outcome .device .on ≡ true → Call geometry (world .device) (length (world .area)) (length (world .page))
+    called on = was-call geometry (world .device) (world .area) (length (world .page)) offset width value off on
+
+    switches : switched .outcome .device .on ≡ true → Switched geometry (world .device) (world .area) switched
+    unfolding OnlyOn
+    switches on =
+        write-switches geometry (world .device) (world .area) (called on .is-allowed) off (length (world .page)) offset width value on
+
+    pub start-holds : call geometry world (write offset width value) .world .device .on ≡ true
+        → Invariant geometry (call geometry world (write offset width value) .world) []
+    unfolding call
+    start-holds on =
+        let c = called on in
+        let s = switches on in
+        let device = rules-device geometry (world .device) (c .keeps) in
+        let rules = write-keeps geometry (world .device) device (world .area) (length (world .page)) offset width value in
+        let size = write-size geometry (world .device) (world .area) (length (world .page)) offset width value in
+        record {
+          called = rw size (called-with geometry _ c rules);
+          on = on;
+          packet-size = fresh .size;
+          is-driver = fresh-driver geometry (world .collector) fresh;
+          ahead = rw (s .area-after, s .device-after) (started c);
+        }
+
+    -- nothing was refused yet
+    pub start-not-lost : call geometry world (write offset width value) .world .device .on ≡ true
+        → call geometry world (write offset width value) .world .device .lost ≡ false
+    unfolding call
+    start-not-lost on = rw (switches on .device-after)
