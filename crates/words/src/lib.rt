@@ -1,8 +1,8 @@
-// Little-endian words of 16 and 32 bits in a slice of bytes.
+// Little-endian words of 16, 32 and 64 bits in a slice of bytes.
 ghost use mathlib.Core.Path.{_≡_};
 ghost use Prim.Native.Nat.{_+_, _≤_, _<_};
 ghost use lib.ListN.{length};
-ghost use Rattle.words.specs.Words.{u16At, u32At, u16Bytes, u32Bytes, setU16, setU32};
+ghost use Rattle.words.specs.Words.{u16At, u32At, u16Bytes, u32Bytes, u64Bytes, setU16, setU32, setU64};
 
 fn widen_u16(byte: u8) -> u16
     ensures { λ r. ⌜ (r ≡ byte) × (r < 256) ⌝ }
@@ -53,6 +53,23 @@ fn fill_u32(stretch: &mut [u8], value: u32)
     stretch[3] = (value / 16777216 % 256) as u8;
 }
 
+// Fills a stretch of eight bytes. The compiler joins them to one store, as it wouldn't join two words of 32 bits.
+fn fill_u64(stretch: &mut [u8], value: u64)
+    requires { ⌜ length (now stretch) ≡ 8 ⌝ }
+    ensures { λ _. ⌜ now (stretch .exit) ≡ u64Bytes value ⌝ }
+{
+    let low = value % 4294967296;
+    let high = value / 4294967296;
+    stretch[0] = (low % 256) as u8;
+    stretch[1] = (low / 256 % 256) as u8;
+    stretch[2] = (low / 65536 % 256) as u8;
+    stretch[3] = (low / 16777216 % 256) as u8;
+    stretch[4] = (high % 256) as u8;
+    stretch[5] = (high / 256 % 256) as u8;
+    stretch[6] = (high / 65536 % 256) as u8;
+    stretch[7] = (high / 16777216 % 256) as u8;
+}
+
 pub fn write_u16(bytes: &mut [u8], at: usize, value: u16)
     requires { ⌜ at + 2 ≤ length (now bytes) ⌝ }
     ensures { λ _. ⌜ now (bytes .exit) ≡ setU16 (now (bytes .entry)) at value ⌝ }
@@ -65,4 +82,11 @@ pub fn write_u32(bytes: &mut [u8], at: usize, value: u32)
     ensures { λ _. ⌜ now (bytes .exit) ≡ setU32 (now (bytes .entry)) at value ⌝ }
 {
     fill_u32(&mut bytes[at..at + 4], value);
+}
+
+pub fn write_u64(bytes: &mut [u8], at: usize, value: u64)
+    requires { ⌜ at + 8 ≤ length (now bytes) ⌝ }
+    ensures { λ _. ⌜ now (bytes .exit) ≡ setU64 (now (bytes .entry)) at value ⌝ }
+{
+    fill_u64(&mut bytes[at..at + 8], value);
 }

@@ -1,12 +1,12 @@
 -- Laws of words in a buffer, over the offset: what was written is read back, and a word depends on its own bytes alone.
-use Prim.Native.Nat.{ℕ, _+_, _/_, _≤_, _<_, _^_}
+use Prim.Native.Nat.{ℕ, _+_, _*_, _/_, _%_, _≤_, _<_, _^_}
 use mathlib.Core.Path.{_≡_, sym, ap}
-use mathlib.Core.List.{List}
+use mathlib.Core.List.{List, _++_}
 use native.Mathlib.Omega.{arith}
 use native.Mathlib.Nat.{add-zero, add-assoc, div-div-eq-div-mul}
 use lib.ListN.{length, getD}
 use Rattle.copying.specs.Copying.{overwrite, Agree}
-use Rattle.words.specs.Words.{u16Bytes, u32Bytes, u16At, u32At, setU16, setU32}
+use Rattle.words.specs.Words.{u16Bytes, u32Bytes, u64Bytes, u16At, u32At, setU16, setU32}
 use Rattle.copying.proofs.Laws.Overwrite.{overwrite-inside}
 
 -- a number is the word that its bytes make
@@ -21,6 +21,14 @@ u32-digits v h =
     let p′ : v / 256 / 256 ≡ high = p in
     let q′ : v / 16777216 ≡ high / 256 = sym q in
     rw q′ (omega arith)
+
+-- the bytes of a word of 64 bits are those of its halves
+pub u64-halves : (low high : ℕ) → low < 2 ^ 32 → u64Bytes (low + high * 4294967296) ≡ u32Bytes low ++ u32Bytes high
+u64-halves low high h =
+    let value : ℕ = low + high * 4294967296 in
+    let lower : value % 4294967296 ≡ low = omega arith in
+    let upper : value / 4294967296 ≡ high = omega arith in
+    rw (lower, upper)
 
 -- ---- a word is its own bytes
 
@@ -56,8 +64,11 @@ module _ (bytes : List ℕ) (at : ℕ) (stretch : List ℕ) (i : ℕ) (h : at �
 
 module _ (bytes : List ℕ) (at value : ℕ) where
   pub u16-back : value < 2 ^ 16 → at + 2 ≤ length bytes → u16At (setU16 bytes at value) at ≡ value
-  u16-back fits h = omega (arith, ap (u16At (setU16 bytes at value)) (add-zero at), u16-inside bytes at (u16Bytes value) 0 (omega arith) (omega arith))
+  u16-back fits h =
+      let here = ap (u16At (setU16 bytes at value)) (add-zero at) in
+      omega (arith, here, u16-inside bytes at (u16Bytes value) 0 (omega arith) (omega arith))
 
   pub u32-back : value < 2 ^ 32 → at + 4 ≤ length bytes → u32At (setU32 bytes at value) at ≡ value
   u32-back fits h =
-      omega (arith, ap (u32At (setU32 bytes at value)) (add-zero at), u32-inside bytes at (u32Bytes value) 0 (omega arith) (omega arith), u32-digits value fits)
+      let here = ap (u32At (setU32 bytes at value)) (add-zero at) in
+      omega (arith, here, u32-inside bytes at (u32Bytes value) 0 (omega arith) (omega arith), u32-digits value fits)
