@@ -8,9 +8,13 @@ use mir.Syntax.{w8, w16, w32}
 use mir.Val.{Fits, SFits}
 use Rattle.words.specs.Words.{u16Bytes, u32Bytes}
 use Rattle.signed.specs.Signed.{toBits}
-use Rattle.kbdif_events.specs.Types.{XENKBD-TYPE-MOTION, XENKBD-TYPE-KEY, XENKBD-TYPE-POS, XENKBD-TYPE-MTOUCH, XENKBD-MT-EV-DOWN, XENKBD-MT-EV-UP, XENKBD-MT-EV-MOTION, XENKBD-MT-EV-SYN, XENKBD-MT-EV-SHAPE, XENKBD-MT-EV-ORIENT}
+use Rattle.kbdif_events.specs.Types.{XENKBD-TYPE-MOTION, XENKBD-TYPE-KEY, XENKBD-TYPE-POS, XENKBD-TYPE-MTOUCH}
+use Rattle.kbdif_events.specs.Types.{XENKBD-MT-EV-DOWN, XENKBD-MT-EV-UP, XENKBD-MT-EV-MOTION}
+use Rattle.kbdif_events.specs.Types.{XENKBD-MT-EV-SYN, XENKBD-MT-EV-SHAPE, XENKBD-MT-EV-ORIENT}
+use Rattle.kbdif_events.specs.declared.EventWords.{EventWords}
 use Rattle.kbdif_events.specs.declared.RingEvent.{RingEvent}
-use Rattle.kbdif_events.specs.declared.RingEvent.the-variants.{Motion, Key, Pos, TouchDown, TouchUp, TouchMotion, TouchSyn, TouchShape, TouchOrient, Unknown}
+use Rattle.kbdif_events.specs.declared.RingEvent.the-variants.{Motion, Key, Pos, Unknown}
+use Rattle.kbdif_events.specs.declared.RingEvent.the-variants.{TouchDown, TouchUp, TouchMotion, TouchSyn, TouchShape, TouchOrient}
 
 abbrev pub eventLength : ℕ
 eventLength = 40
@@ -48,7 +52,8 @@ layoutOf (TouchDown contact x y) = layout (XENKBD-TYPE-MTOUCH ∷ XENKBD-MT-EV-D
 layoutOf (TouchUp contact) = layout (XENKBD-TYPE-MTOUCH ∷ XENKBD-MT-EV-UP ∷ contact ∷ []) 8 []
 layoutOf (TouchMotion contact x y) = layout (XENKBD-TYPE-MTOUCH ∷ XENKBD-MT-EV-MOTION ∷ contact ∷ []) 8 (i32Bytes x ++ i32Bytes y)
 layoutOf (TouchSyn contact) = layout (XENKBD-TYPE-MTOUCH ∷ XENKBD-MT-EV-SYN ∷ contact ∷ []) 8 []
-layoutOf (TouchShape contact major minor) = layout (XENKBD-TYPE-MTOUCH ∷ XENKBD-MT-EV-SHAPE ∷ contact ∷ []) 8 (u32Bytes major ++ u32Bytes minor)
+layoutOf (TouchShape contact major minor) =
+    layout (XENKBD-TYPE-MTOUCH ∷ XENKBD-MT-EV-SHAPE ∷ contact ∷ []) 8 (u32Bytes major ++ u32Bytes minor)
 layoutOf (TouchOrient contact orientation) = layout (XENKBD-TYPE-MTOUCH ∷ XENKBD-MT-EV-ORIENT ∷ contact ∷ []) 8 (i16Bytes orientation)
 layoutOf Unknown = layout (zeros eventLength) eventLength []
 
@@ -56,6 +61,11 @@ layoutOf Unknown = layout (zeros eventLength) eventLength []
 abbrev pub padded : List ℕ → ℕ → List ℕ → List ℕ
 padded head start fields =
     head ++ (zeros (start - length head) ++ (fields ++ zeros (eventLength - (start + length fields))))
+
+-- The bytes whose first sixteen are these words.
+unfoldable pub wordsBytes : EventWords → List ℕ
+wordsBytes words =
+    u32Bytes (words .head) ++ (u32Bytes (words .first) ++ (u32Bytes (words .second) ++ (u32Bytes (words .third) ++ zeros 24)))
 
 unfoldable pub eventBytes : RingEvent → List ℕ
 eventBytes event = padded (layoutOf event .head) (layoutOf event .start) (layoutOf event .fields)

@@ -2,12 +2,14 @@
 use signed::i16_to_bits;
 use signed::i32_to_bits as bits;
 ghost use mathlib.Core.Path.{_≡_};
+ghost use Prim.Native.Nat.{_+_, _≤_, _<_};
 ghost use mathlib.Core.Bool.{cond};
 ghost use mathlib.Core.List.{[], _∷_, _++_};
 ghost use lib.ListN.{length};
+ghost use Rattle.copying.specs.Copying.{overwrite};
 ghost use Rattle.words.specs.Words.{u32Bytes};
 ghost use Rattle.kbdif_events.specs.Types.{XENKBD-TYPE-KEY, XENKBD-TYPE-MTOUCH};
-ghost use Rattle.kbdif_events.specs.Event.{eventLength, i32Bytes, known, padded, eventBytes};
+ghost use Rattle.kbdif_events.specs.Event.{eventLength, i32Bytes, known, padded, wordsBytes, eventBytes};
 
 pub const EVENT_LENGTH: usize = 40;
 
@@ -63,57 +65,92 @@ pub fn is_known(event: RingEvent) -> bool
     }
 }
 
-// Fills 40 bytes: the first three, and zeros.
-fn set_head(out: &mut [u8], kind: u8, detail: u8, contact: u8)
-    requires { ⌜ length (now out) ≡ eventLength ⌝ }
-    ensures { λ _. ⌜ now (out .exit) ≡ padded (kind ∷ detail ∷ contact ∷ []) 4 [] ⌝ }
-{
-    let zeros = [0; EVENT_LENGTH];
-    bytes::copy(&zeros, out);
-    out[0] = kind;
-    out[1] = detail;
-    out[2] = contact;
+// The words of an event's first sixteen bytes. The rest are zero.
+struct EventWords {
+    head: u32,
+    first: u32,
+    second: u32,
+    third: u32,
 }
 
-// Fills 40 bytes: the first three, the words at 4, 8 and 12, and zeros.
-fn set_all(out: &mut [u8], kind: u8, detail: u8, contact: u8, first: u32, second: u32, third: u32)
-    requires { ⌜ length (now out) ≡ eventLength ⌝ }
-    ensures { λ _. ⌜ now (out .exit) ≡ padded (kind ∷ detail ∷ contact ∷ []) 4 (u32Bytes first ++ (u32Bytes second ++ u32Bytes third)) ⌝ }
+fn widen(byte: u8) -> u32
+    ensures { λ r. ⌜ (r ≡ byte) × (r < 256) ⌝ }
 {
-    set_head(out, kind, detail, contact);
-    words::write_u32(out, 4, first);
-    words::write_u32(out, 8, second);
-    words::write_u32(out, 12, third);
+    byte as u32
 }
 
-// Fills 40 bytes with a motion or a position.
-fn set_pointer(out: &mut [u8], kind: u8, x: i32, y: i32, z: i32)
-    requires { ⌜ length (now out) ≡ eventLength ⌝ }
-    ensures { λ _. ⌜ now (out .exit) ≡ padded (kind ∷ []) 4 (i32Bytes x ++ (i32Bytes y ++ i32Bytes z)) ⌝ }
+fn all_words(kind: u8, detail: u8, contact: u8, first: u32, second: u32, third: u32) -> EventWords
+    ensures { λ r. ⌜ wordsBytes r ≡ padded (kind ∷ detail ∷ contact ∷ []) 4 (u32Bytes first ++ (u32Bytes second ++ u32Bytes third)) ⌝ }
 {
-    set_all(out, kind, 0, 0, bits(x), bits(y), bits(z));
+    EventWords {
+        head: widen(kind) + widen(detail) * 256 + widen(contact) * 65536,
+        first,
+        second,
+        third,
+    }
 }
 
-fn set_key(out: &mut [u8], pressed: bool, keycode: u32)
-    requires { ⌜ length (now out) ≡ eventLength ⌝ }
-    ensures { λ _. ⌜ now (out .exit) ≡ padded (XENKBD-TYPE-KEY ∷ cond pressed 1 0 ∷ []) 4 (u32Bytes keycode) ⌝ }
+// A motion or a position.
+fn pointer_words(kind: u8, x: i32, y: i32, z: i32) -> EventWords
+    ensures { λ r. ⌜ wordsBytes r ≡ padded (kind ∷ []) 4 (i32Bytes x ++ (i32Bytes y ++ i32Bytes z)) ⌝ }
 {
-    set_all(out, XENKBD_TYPE_KEY, pressed as u8, 0, keycode, 0, 0);
+    all_words(kind, 0, 0, bits(x), bits(y), bits(z))
 }
 
-fn set_touch(out: &mut [u8], subtype: u8, contact: u8, first: u32, second: u32)
-    requires { ⌜ length (now out) ≡ eventLength ⌝ }
-    ensures { λ _. ⌜ now (out .exit) ≡ padded (XENKBD-TYPE-MTOUCH ∷ subtype ∷ contact ∷ []) 8 (u32Bytes first ++ u32Bytes second) ⌝ }
+fn key_words(pressed: bool, keycode: u32) -> EventWords
+    ensures { λ r. ⌜ wordsBytes r ≡ padded (XENKBD-TYPE-KEY ∷ cond pressed 1 0 ∷ []) 4 (u32Bytes keycode) ⌝ }
 {
-    set_all(out, XENKBD_TYPE_MTOUCH, subtype, contact, 0, first, second);
+    all_words(XENKBD_TYPE_KEY, pressed as u8, 0, keycode, 0, 0)
 }
 
-// Fills 40 bytes with a touch that has a place.
-fn set_place(out: &mut [u8], subtype: u8, contact: u8, x: i32, y: i32)
-    requires { ⌜ length (now out) ≡ eventLength ⌝ }
-    ensures { λ _. ⌜ now (out .exit) ≡ padded (XENKBD-TYPE-MTOUCH ∷ subtype ∷ contact ∷ []) 8 (i32Bytes x ++ i32Bytes y) ⌝ }
+fn touch_words(subtype: u8, contact: u8, first: u32, second: u32) -> EventWords
+    ensures { λ r. ⌜ wordsBytes r ≡ padded (XENKBD-TYPE-MTOUCH ∷ subtype ∷ contact ∷ []) 8 (u32Bytes first ++ u32Bytes second) ⌝ }
 {
-    set_touch(out, subtype, contact, bits(x), bits(y));
+    all_words(XENKBD_TYPE_MTOUCH, subtype, contact, 0, first, second)
+}
+
+// A touch that has a place.
+fn place_words(subtype: u8, contact: u8, x: i32, y: i32) -> EventWords
+    ensures { λ r. ⌜ wordsBytes r ≡ padded (XENKBD-TYPE-MTOUCH ∷ subtype ∷ contact ∷ []) 8 (i32Bytes x ++ i32Bytes y) ⌝ }
+{
+    touch_words(subtype, contact, bits(x), bits(y))
+}
+
+fn words_of(event: RingEvent) -> EventWords
+    ensures { λ r. ⌜ wordsBytes r ≡ eventBytes event ⌝ }
+{
+    match event {
+        RingEvent::Motion { x, y, z } => pointer_words(XENKBD_TYPE_MOTION, x, y, z),
+        RingEvent::Key { pressed, keycode } => key_words(pressed, keycode),
+        RingEvent::Pos { x, y, wheel } => pointer_words(XENKBD_TYPE_POS, x, y, wheel),
+        RingEvent::TouchDown { contact, x, y } => place_words(XENKBD_MT_EV_DOWN, contact, x, y),
+        RingEvent::TouchUp { contact } => touch_words(XENKBD_MT_EV_UP, contact, 0, 0),
+        RingEvent::TouchMotion { contact, x, y } => place_words(XENKBD_MT_EV_MOTION, contact, x, y),
+        RingEvent::TouchSyn { contact } => touch_words(XENKBD_MT_EV_SYN, contact, 0, 0),
+        RingEvent::TouchShape {
+            contact,
+            major,
+            minor,
+        } => touch_words(XENKBD_MT_EV_SHAPE, contact, major, minor),
+        RingEvent::TouchOrient {
+            contact,
+            orientation,
+        } => touch_words(
+            XENKBD_MT_EV_ORIENT,
+            contact,
+            i16_to_bits(orientation) as u32,
+            0,
+        ),
+        RingEvent::Unknown => all_words(0, 0, 0, 0, 0, 0),
+    }
+}
+
+// Writes two words by one store, since a put that comes right after reads them by one load.
+fn write_pair(out: &mut [u8], at: usize, low: u32, high: u32)
+    requires { ⌜ at + 8 ≤ length (now out) ⌝ }
+    ensures { λ _. ⌜ now (out .exit) ≡ overwrite (now (out .entry)) at (u32Bytes low ++ u32Bytes high) ⌝ }
+{
+    words::write_u64(out, at, low as u64 + high as u64 * 4294967296);
 }
 
 // Fills 40 bytes with an event. What is unknown becomes zeros, since no event has type 0.
@@ -121,35 +158,11 @@ pub fn encode(out: &mut [u8], event: RingEvent)
     requires { ⌜ length (now out) ≡ eventLength ⌝ }
     ensures { λ _. ⌜ now (out .exit) ≡ eventBytes event ⌝ }
 {
-    match event {
-        RingEvent::Motion { x, y, z } => set_pointer(out, XENKBD_TYPE_MOTION, x, y, z),
-        RingEvent::Key { pressed, keycode } => set_key(out, pressed, keycode),
-        RingEvent::Pos { x, y, wheel } => set_pointer(out, XENKBD_TYPE_POS, x, y, wheel),
-        RingEvent::TouchDown { contact, x, y } => set_place(out, XENKBD_MT_EV_DOWN, contact, x, y),
-        RingEvent::TouchUp { contact } => set_touch(out, XENKBD_MT_EV_UP, contact, 0, 0),
-        RingEvent::TouchMotion { contact, x, y } => set_place(
-            out,
-            XENKBD_MT_EV_MOTION,
-            contact,
-            x,
-            y,
-        ),
-        RingEvent::TouchSyn { contact } => set_touch(out, XENKBD_MT_EV_SYN, contact, 0, 0),
-        RingEvent::TouchShape {
-            contact,
-            major,
-            minor,
-        } => set_touch(out, XENKBD_MT_EV_SHAPE, contact, major, minor),
-        RingEvent::TouchOrient {
-            contact,
-            orientation,
-        } => set_touch(
-            out,
-            XENKBD_MT_EV_ORIENT,
-            contact,
-            i16_to_bits(orientation) as u32,
-            0,
-        ),
-        RingEvent::Unknown => set_all(out, 0, 0, 0, 0, 0, 0),
-    }
+    // Paired in the match, two numbers would be loaded as one from an event that was stored number by number.
+    let words = words_of(event);
+    write_pair(out, 0, words.head, words.first);
+    write_pair(out, 8, words.second, words.third);
+    words::write_u64(out, 16, 0);
+    words::write_u64(out, 24, 0);
+    words::write_u64(out, 32, 0);
 }

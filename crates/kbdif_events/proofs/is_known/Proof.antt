@@ -1,3 +1,4 @@
+-- Each arm answers what is said of its kind.
 use borrow.Author.Needs.{needs}
 use Rattle.kbdif_events.proofs.is_known.Statement.{statement}
 use Rattle.kbdif_events.proofs.is_known.Tie as tie
