@@ -85,6 +85,7 @@ static void measure_calls(void)
     print_heading("work");
     measure_row("three-event packet put, read by steps until nothing is left", packet_and_steps, usual, 60, ROUNDS);
     measure_row("keyboard ring event put and taken, nine kinds in turn", ring_put_and_take, usual, 60, ROUNDS);
+    measure_row("keyboard ring motion encoded and put", ring_encode_and_put, usual, 60, ROUNDS);
     register_offset = 0x104;
     measure_row("register read, EVENT_SIZE", register_read, usual, 60, ROUNDS);
     register_offset = 0x100;

@@ -6,7 +6,7 @@
 
 enum { CONTACTS = 10 };
 
-void fill_ring_event(uint8_t *bytes, uint32_t kind, uint32_t number)
+struct thayarqo_ring_event ring_event(uint32_t kind, uint32_t number)
 {
     static const uint8_t kinds[RING_KINDS] = {1, 3, 4, 5, 5, 5, 5, 5, 5};
     struct thayarqo_ring_event event = {.kind = kinds[kind], .subtype = kind < 3 ? 0 : (uint8_t)(kind - 3)};
@@ -16,7 +16,12 @@ void fill_ring_event(uint8_t *bytes, uint32_t kind, uint32_t number)
     event.y = event.z = -event.x / 2;
     event.keycode = event.major = event.minor = number;
     event.orientation = (int16_t)number;
-    thayarqo_ring_encode(bytes, THAYARQO_RING_EVENT_LENGTH, event);
+    return event;
+}
+
+void fill_ring_event(uint8_t *bytes, uint32_t kind, uint32_t number)
+{
+    thayarqo_ring_encode(bytes, THAYARQO_RING_EVENT_LENGTH, ring_event(kind, number));
 }
 
 static void draw_event(uint64_t *seed, uint8_t *event)
@@ -50,6 +55,7 @@ struct call draw_call(uint64_t *seed, const struct world *world)
     call.offset = draw_offset(seed, world);
     for (size_t at = 0; at < sizeof call.events; at += 8)
         draw_event(seed, call.events + at);
+    call.numbers = ring_event(below(seed, RING_KINDS), any(seed));
     fill_ring_event(call.event, below(seed, RING_KINDS), any(seed));
     return call;
 }
@@ -61,7 +67,7 @@ static void put_numbers(struct reply *reply, struct thayarqo_ring_found found)
                              event.keycode, event.major, event.minor, event.orientation}};
 }
 
-static struct reply read_or_take(const struct contestant *contestant, struct world *world, const struct call *call)
+static struct reply read_or_call_ring(const struct contestant *contestant, struct world *world, const struct call *call)
 {
     struct reply reply = {{0}};
     if (call->kind == READ) {
@@ -69,7 +75,9 @@ static struct reply read_or_take(const struct contestant *contestant, struct wor
                                                        call->page_length, call->offset, call->width);
         return (struct reply){{value.answer, value.value}};
     }
-    if (call->kind == RING_TAKE)
+    if (call->kind == RING_ENCODE)
+        reply.numbers[0] = contestant->ring_encode(world->out, call->event_length, call->numbers);
+    else if (call->kind == RING_TAKE)
         put_numbers(&reply, contestant->ring_take(world->ring, call->page_length, &world->in_cons, call->contact_limit));
     else
         reply.numbers[0] = contestant->ring_put(world->ring, call->page_length, &world->in_prod, call->contact_limit, call->event,
@@ -92,5 +100,5 @@ struct reply make_call(const struct contestant *contestant, struct world *world,
                                                              world->out, call->out_length);
         return (struct reply){{copied.answer, copied.count}};
     }
-    return read_or_take(contestant, world, call);
+    return read_or_call_ring(contestant, world, call);
 }

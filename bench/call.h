@@ -4,7 +4,7 @@
 
 #include "world.h"
 
-enum call_kind { PUT_PACKET, STEP, COPY_OUT, READ, RING_PUT, RING_TAKE, CALL_KINDS };
+enum call_kind { PUT_PACKET, STEP, COPY_OUT, READ, RING_ENCODE, RING_PUT, RING_TAKE, CALL_KINDS };
 
 struct call {
     enum call_kind kind;
@@ -12,6 +12,7 @@ struct call {
     uint32_t slot, limit, width, contact_limit;
     uint64_t offset;
     uint8_t events[33 * 8];
+    struct thayarqo_ring_event numbers;
     uint8_t event[THAYARQO_RING_EVENT_LENGTH];
 };
 
@@ -28,8 +29,9 @@ void spoil(uint64_t *seed, struct call *call, struct world *world);
 
 struct reply make_call(const struct contestant *contestant, struct world *world, const struct call *call);
 
-/* Fills the bytes of a valid event of the keyboard ring, of the kind that a number stands for. */
+/* A valid event of the keyboard ring, of the kind that a number stands for, and its bytes. */
 enum { RING_KINDS = 9 };
+struct thayarqo_ring_event ring_event(uint32_t kind, uint32_t number);
 void fill_ring_event(uint8_t *bytes, uint32_t kind, uint32_t number);
 
 #endif

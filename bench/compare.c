@@ -74,6 +74,7 @@ static void expect_all_answers(void)
         [STEP] = {[0] = true, [1] = true, [9] = true, [10] = true, [11] = true},
         [COPY_OUT] = {[0] = true, [1] = true, [10] = true, [11] = true},
         [READ] = {[0] = true, [1] = true, [2] = true, [4] = true},
+        [RING_ENCODE] = {[0] = true, [1] = true, [9] = true},
         [RING_PUT] = {[0] = true, [1] = true, [7] = true, [9] = true, [10] = true},
         [RING_TAKE] = {[0] = true, [1] = true, [9] = true, [10] = true, [11] = true},
     };

@@ -36,12 +36,14 @@ static void spoil_call(uint64_t *seed, struct call *call, const struct world *wo
     }
 }
 
-/* Events that a slot may not offer, and bytes that a ring's event may not have. */
+/* Events that a slot may not offer, and kinds and bytes that a ring's event may not have. */
 static void spoil_events(uint64_t *seed, struct call *call)
 {
     static const uint16_t codes[] = {0, 1, 2, 3, 31, 32, 63, 64, 0xFF, 0x100, 0x15F, 0x160};
     store_event(call->events, (uint16_t)below(seed, 7), codes[below(seed, 12)], any(seed));
     call->event[below(seed, 40)] = (uint8_t)draw_number(seed);
+    call->numbers.kind = (uint8_t)below(seed, 7);
+    call->numbers.subtype = (uint8_t)below(seed, 7);
 }
 
 static void spoil_geometry(uint64_t *seed, struct world *world)
@@ -122,6 +124,7 @@ static void spoil_subject(uint64_t *seed, struct call *call, struct world *world
     switch (call->kind) {
     case STEP: spoil_driver(seed, world); break;
     case COPY_OUT: spoil_pages(seed, world); break;
+    case RING_ENCODE: spoil_events(seed, call); break;
     case RING_PUT: below(seed, 2) == 0 ? spoil_ring(seed, world) : spoil_events(seed, call); break;
     case RING_TAKE: spoil_ring(seed, world); break;
     default: below(seed, 2) == 0 ? spoil_pages(seed, world) : spoil_events(seed, call);

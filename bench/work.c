@@ -10,6 +10,7 @@ uint32_t ring_kind = RING_KINDS;
 
 static uint8_t events[PACKET];
 static uint8_t ring_events[RING_KINDS][THAYARQO_RING_EVENT_LENGTH];
+static struct thayarqo_ring_event motion;
 
 /* What a mouse says: how far it moved, a button, an axis. */
 void prepare_work(void)
@@ -22,6 +23,7 @@ void prepare_work(void)
     }
     for (uint32_t kind = 0; kind < RING_KINDS; kind++)
         fill_ring_event(ring_events[kind], kind, 1000 + kind);
+    motion = ring_event(0, 1000);
 }
 
 uint64_t packet_and_steps(const struct contestant *contestant, struct world *world, uint32_t times)
@@ -89,6 +91,18 @@ uint64_t ring_put_and_take(const struct contestant *contestant, struct world *wo
         sum += contestant->ring_put(world->ring, PAGE, &world->in_prod, 10, event, THAYARQO_RING_EVENT_LENGTH);
         struct thayarqo_ring_found found = contestant->ring_take(world->ring, PAGE, &world->in_cons, 10);
         sum += found.answer + found.event.keycode + (uint32_t)found.event.x + found.event.minor + found.event.contact;
+    }
+    return sum;
+}
+
+uint64_t ring_encode_and_put(const struct contestant *contestant, struct world *world, uint32_t times)
+{
+    uint64_t sum = 0;
+    uint8_t bytes[THAYARQO_RING_EVENT_LENGTH];
+    for (uint32_t i = 0; i < times; i++) {
+        sum += contestant->ring_encode(bytes, sizeof bytes, motion);
+        sum += contestant->ring_put(world->ring, PAGE, &world->in_prod, 10, bytes, sizeof bytes);
+        store_u32(world->ring, world->in_prod);
     }
     return sum;
 }

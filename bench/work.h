@@ -19,6 +19,11 @@ work packet_and_steps;
 /* A full ring emptied by one copy-out. */
 work full_copy_out, full_memcpy_each, full_memcpy_all;
 
-work ring_put_and_take, register_read;
+work ring_put_and_take;
+
+/* A motion of the keyboard ring encoded, put, and counted as taken. */
+work ring_encode_and_put;
+
+work register_read;
 
 #endif
