@@ -65,18 +65,18 @@ module _ (geometry : Geometry) where
 
   fresh-driver : (collector : Collector) → IsFresh collector → isDriver geometry (collector .driver) ≡ true
   unfolding isDriver
-  fresh-driver collector fresh = rw (fresh .none-held, fresh .no-slot)
+  fresh-driver collector fresh = rw (fresh .is-fresh)
 
 fresh-holding : (collector : Collector) → IsFresh collector → Holding noSlot [] collector
 unfolding eventsFrom
 fresh-holding collector fresh = record {
   size = fresh .size;
-  at-slot = fresh .no-slot;
-  count = fresh .none-held;
-  begun = rw (fresh .none-held);
-  not-overlong = fresh .not-overlong;
-  not-spoiled = fresh .not-spoiled;
-  not-ignoring = fresh .not-ignoring;
+  at-slot = rw (fresh .is-fresh);
+  count = rw (fresh .is-fresh);
+  begun = rw (fresh .is-fresh);
+  not-overlong = rw (fresh .is-fresh);
+  not-spoiled = rw (fresh .is-fresh);
+  not-ignoring = rw (fresh .is-fresh);
 }
 
 -- ---- both pointers 0

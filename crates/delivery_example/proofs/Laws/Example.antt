@@ -69,7 +69,7 @@ all-allowed =
 pub example : Example
 unfolding overwrite firstRefusal isRecordSize isEntrySize allowed bit eventBytes eventAt eventsFrom putRecord putRecords indexAfter offersCode isOffered devKind kindOf spoiled joined reported withoutSlot collected isSized readingRefusal oldestOf isDriver isValid stepOf clientRevRule currentRule isDevice sizedCall isCall allOffered packetAnswer packetOf addAnswer addOf removeAnswer removeOf accessAnswer placeIn placeOf takenFrom switchOn controlOf writeOf call
 example = record {
-  is-fresh = record { size = refl; no-slot = refl; none-held = refl; not-overlong = refl; not-spoiled = refl; not-ignoring = refl };
+  is-fresh = record { is-fresh = refl; size = refl };
   is-on = refl;
   is-allowed = all-allowed;
   is-received = refl;
