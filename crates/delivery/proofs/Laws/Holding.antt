@@ -1,4 +1,4 @@
--- A driver between reports: what each record makes of it.
+-- A driver between reports: what each record makes of it. The kind of a record decides, so each law is one case of the table of kinds.
 use Prim.Native.Nat.{ℕ, _+_, _*_, _≤_, _<_}
 use mathlib.Core.Path.{_≡_, refl, sym, _∙_}
 use mathlib.Core.Bool.{true, false}
@@ -38,7 +38,8 @@ pub record Holding (slot : ℕ) (events : List Event) (collector : Collector) : 
   pub not-ignoring : collector .driver .ignoring ≡ false
 
 -- Over one record the driver gives these items, and goes on holding these events.
-pub record Leads (geometry : Geometry) (event : Event) (collector : Collector) (items : List Item) (slot : ℕ) (events : List Event) : Type 0 where
+pub record Leads (geometry : Geometry) (event : Event) (collector : Collector) (items : List Item) (slot : ℕ) (events : List Event)
+    : Type 0 where
   pub gives : give geometry event collector ≡ items
   pub held : Holding slot events (collect geometry event collector)
 
@@ -54,7 +55,8 @@ module _ (geometry : Geometry) where
   -- the kind of a record decides; this one doesn't join
   lead : (event : Event) (collector : Collector) (k : Kind) {items : List Item} {slot : ℕ} {events : List Event} → kindOf geometry event ≡ k
       → received k event (collector .driver) .driver .held ≤ collector .driver .held
-      → toldBy (received k event (collector .driver) .told) (collector .packet) ≡ items → Holding slot events (with (received k event (collector .driver) .driver) collector)
+      → toldBy (received k event (collector .driver) .told) (collector .packet) ≡ items
+      → Holding slot events (with (received k event (collector .driver) .driver) collector)
       → Leads geometry event collector items slot events
   lead event collector k e fewer gives held =
       let same = none-joined (collector .driver) (received k event (collector .driver) .driver) event (collector .packet) fewer in
@@ -63,16 +65,19 @@ module _ (geometry : Geometry) where
   -- ---- events and reports
 
   -- one more is held
-  grown : {collector : Collector} {slot : ℕ} {events : List Event} → Holding slot events collector → length events < 32 → joined (collector .driver) ≡ withOneMore (collector .driver)
+  grown : {collector : Collector} {slot : ℕ} {events : List Event} → Holding slot events collector → length events < 32
+      → joined (collector .driver) ≡ withOneMore (collector .driver)
   unfolding joined
   grown {collector} h few = rw (h .not-ignoring, lt-leb 32 (collector .driver .held) (omega (arith, h .count)))
 
-  pub join : (event : Event) {collector : Collector} {slot : ℕ} {events : List Event} → kindOf geometry event ≡ kind.Other → EventFits event → Holding slot events collector → length events < 32
+  pub join : (event : Event) {collector : Collector} {slot : ℕ} {events : List Event} → kindOf geometry event ≡ kind.Other
+      → EventFits event → Holding slot events collector → length events < 32
       → Leads geometry event collector [] slot (events ++ (event ∷ []))
   join event {collector} {slot} {events} e fits h few =
       let driver : Driver = collector .driver in
       let space : driver .held * 8 + 8 ≤ length (collector .packet) = omega (arith, h .count, h .size) in
-      let holding : Holding slot (events ++ (event ∷ [])) (record { driver = withOneMore driver; packet = collected driver (withOneMore driver) event (collector .packet) })
+      let packet : List ℕ = collected driver (withOneMore driver) event (collector .packet) in
+      let holding : Holding slot (events ++ (event ∷ [])) (record { driver = withOneMore driver; packet = packet })
       = record {
         size = joined-length driver (withOneMore driver) event (collector .packet) refl space ∙ h .size;
         at-slot = h .at-slot;
@@ -86,20 +91,32 @@ module _ (geometry : Geometry) where
       record { gives = rw e; held = rw (e, grown h few) holding }
 
   -- nothing is begun after a report
-  settle : (collector : Collector) {slot : ℕ} → length (collector .packet) ≡ packetLength → collector .driver .slot ≡ slot → Holding slot [] (with (ended false (collector .driver)) collector)
+  settle : (collector : Collector) {slot : ℕ} → length (collector .packet) ≡ packetLength → collector .driver .slot ≡ slot
+      → Holding slot [] (with (ended false (collector .driver)) collector)
   unfolding eventsFrom
-  settle collector a s = record { size = a; at-slot = s; count = refl; begun = refl; not-overlong = refl; not-spoiled = refl; not-ignoring = refl }
+  settle collector a s = record {
+    size = a;
+    at-slot = s;
+    count = refl;
+    begun = refl;
+    not-overlong = refl;
+    not-spoiled = refl;
+    not-ignoring = refl;
+  }
 
   pub report : {collector : Collector} {slot : ℕ} {events : List Event} → Holding slot events collector → 0 < length events
       → Leads geometry (synRecord SYN-REPORT) collector (whole slot events ∷ []) slot []
   unfolding kindOf reported
   report {collector} h some =
       let begun : eqb (collector .driver .held) 0 ≡ false = ne-eqb (collector .driver .held) 0 (λ z. omega (arith, h .count)) in
-      lead (synRecord SYN-REPORT) collector kind.SynReport refl (omega arith) (rw (h .not-ignoring, h .not-spoiled, h .not-overlong, begun, h .at-slot, h .begun)) (settle collector (h .size) (h .at-slot))
+      lead (synRecord SYN-REPORT) collector kind.SynReport refl (omega arith)
+      (rw (h .not-ignoring, h .not-spoiled, h .not-overlong, begun, h .at-slot, h .begun)) (settle collector (h .size) (h .at-slot))
 
   -- dropped records: the next report tells a gap
-  dropped : (collector : Collector) → collected (collector .driver) (ended true (collector .driver)) (synRecord SYN-DROPPED) (collector .packet) ≡ collector .packet
-  dropped collector = none-joined (collector .driver) (ended true (collector .driver)) (synRecord SYN-DROPPED) (collector .packet) (omega arith)
+  dropped : (collector : Collector)
+      → collected (collector .driver) (ended true (collector .driver)) (synRecord SYN-DROPPED) (collector .packet) ≡ collector .packet
+  dropped collector =
+      none-joined (collector .driver) (ended true (collector .driver)) (synRecord SYN-DROPPED) (collector .packet) (omega arith)
 
   pub drop-gives : (collector : Collector) → give geometry (synRecord SYN-DROPPED) collector ≡ []
   unfolding kindOf
@@ -109,14 +126,18 @@ module _ (geometry : Geometry) where
   unfolding kindOf
   drop-next collector = rw (dropped collector)
 
-  pub report-gap : {collector : Collector} {slot : ℕ} → Holding slot [] collector → Leads geometry (synRecord SYN-REPORT) (dropping collector) (gap ∷ []) slot []
+  pub report-gap : {collector : Collector} {slot : ℕ} → Holding slot [] collector
+      → Leads geometry (synRecord SYN-REPORT) (dropping collector) (gap ∷ []) slot []
   unfolding kindOf reported
-  report-gap {collector} h = lead (synRecord SYN-REPORT) (dropping collector) kind.SynReport refl (omega arith) refl (settle (dropping collector) (h .size) (h .at-slot))
+  report-gap {collector} h =
+      lead (synRecord SYN-REPORT) (dropping collector) kind.SynReport refl (omega arith) refl
+      (settle (dropping collector) (h .size) (h .at-slot))
 
   -- ---- records of devices
 
   -- another slot, where nothing is begun
-  move : {collector : Collector} {old : ℕ} (new : ℕ) → Holding old [] collector → Holding new [] (with (moved new (collector .driver)) collector)
+  move : {collector : Collector} {old : ℕ} (new : ℕ) → Holding old [] collector
+      → Holding new [] (with (moved new (collector .driver)) collector)
   unfolding spoiled
   move {collector} new h =
       let none : eqb (collector .driver .held) 0 ≡ true = eq-eqb (collector .driver .held) 0 (h .count) in
@@ -130,25 +151,41 @@ module _ (geometry : Geometry) where
         not-ignoring = h .not-ignoring;
       })
 
-  pub set-slot : (new : ℕ) {collector : Collector} {old : ℕ} → new < slotCount geometry → Holding old [] collector → Leads geometry (devRecord DEV-SET new) collector [] new []
+  pub set-slot : (new : ℕ) {collector : Collector} {old : ℕ} → new < slotCount geometry → Holding old [] collector
+      → Leads geometry (devRecord DEV-SET new) collector [] new []
   unfolding kindOf devKind
-  set-slot new {collector} low h = lead (devRecord DEV-SET new) collector kind.DevSet (rw (lt-ltb new (slotCount geometry) low)) (omega (arith, moved-held new (collector .driver))) refl (move new h)
+  set-slot new {collector} low h =
+      let same = moved-held new (collector .driver) in
+      lead (devRecord DEV-SET new) collector kind.DevSet (rw (lt-ltb new (slotCount geometry) low)) (omega (arith, same)) refl (move new h)
 
-  pub conf : (new : ℕ) {collector : Collector} {slot : ℕ} → new < slotCount geometry → Holding slot [] collector → Leads geometry (devRecord DEV-CONF new) collector [] slot []
+  pub conf : (new : ℕ) {collector : Collector} {slot : ℕ} → new < slotCount geometry → Holding slot [] collector
+      → Leads geometry (devRecord DEV-CONF new) collector [] slot []
   unfolding kindOf devKind
-  conf new {collector} low h = lead (devRecord DEV-CONF new) collector kind.DevConf (rw (lt-ltb new (slotCount geometry) low)) (omega arith) refl h
+  conf new {collector} low h =
+      lead (devRecord DEV-CONF new) collector kind.DevConf (rw (lt-ltb new (slotCount geometry) low)) (omega arith) refl h
 
-  pub reset : (gone : ℕ) {collector : Collector} {slot : ℕ} → gone < slotCount geometry → Holding slot [] collector → Leads geometry (devRecord DEV-RESET gone) collector [] (currentWithout slot gone) []
-  unfolding kindOf devKind withoutSlot
-  reset gone {collector} {slot} low h = elim (ℕ-discrete slot gone) [
-    | yes e ↦ lead (devRecord DEV-RESET gone) collector kind.DevReset (rw (lt-ltb gone (slotCount geometry) low)) (omega (arith, without-held gone (collector .driver))) refl
-        (rw (eq-eqb slot gone e, eq-eqb (collector .driver .slot) gone (h .at-slot ∙ e)) (move noSlot h))
-    | no n ↦ lead (devRecord DEV-RESET gone) collector kind.DevReset (rw (lt-ltb gone (slotCount geometry) low)) (omega (arith, without-held gone (collector .driver))) refl
-        (rw (ne-eqb slot gone n, ne-eqb (collector .driver .slot) gone (λ e. n (sym (h .at-slot) ∙ e))) h)
+  -- the slot is left where it was current
+  leave : (gone : ℕ) {collector : Collector} {slot : ℕ} → Holding slot [] collector
+      → Holding (currentWithout slot gone) [] (with (withoutSlot gone (collector .driver)) collector)
+  unfolding withoutSlot
+  leave gone {collector} {slot} h = elim (ℕ-discrete slot gone) [
+    | yes e ↦ rw (eq-eqb slot gone e, eq-eqb (collector .driver .slot) gone (h .at-slot ∙ e)) (move noSlot h)
+    | no n ↦ rw (ne-eqb slot gone n, ne-eqb (collector .driver .slot) gone (λ e. n (sym (h .at-slot) ∙ e))) h
   ]
 
-  pub reset-all : {collector : Collector} {slot : ℕ} → allowed geometry ≡ true → Holding slot [] collector → Leads geometry (devRecord DEV-RESET allSlots) collector [] noSlot []
+  pub reset : (gone : ℕ) {collector : Collector} {slot : ℕ} → gone < slotCount geometry → Holding slot [] collector
+      → Leads geometry (devRecord DEV-RESET gone) collector [] (currentWithout slot gone) []
+  unfolding kindOf devKind
+  reset gone {collector} low h =
+      let same = without-held gone (collector .driver) in
+      lead (devRecord DEV-RESET gone) collector kind.DevReset (rw (lt-ltb gone (slotCount geometry) low)) (omega (arith, same)) refl
+      (leave gone h)
+
+  pub reset-all : {collector : Collector} {slot : ℕ} → allowed geometry ≡ true → Holding slot [] collector
+      → Leads geometry (devRecord DEV-RESET allSlots) collector [] noSlot []
   unfolding kindOf devKind
   reset-all {collector} ok h =
-      let high : ltb allSlots (slotCount geometry) ≡ false = le-ltb allSlots (slotCount geometry) (omega (arith, few-slots geometry (sizes geometry ok))) in
-      lead (devRecord DEV-RESET allSlots) collector kind.DevResetAll (rw high) (omega (arith, moved-held noSlot (collector .driver))) refl (move noSlot h)
+      let few = few-slots geometry (sizes geometry ok) in
+      let high : ltb allSlots (slotCount geometry) ≡ false = le-ltb allSlots (slotCount geometry) (omega (arith, few)) in
+      let same = moved-held noSlot (collector .driver) in
+      lead (devRecord DEV-RESET allSlots) collector kind.DevResetAll (rw high) (omega (arith, same)) refl (move noSlot h)
