@@ -22,20 +22,20 @@ use Rattle.answers.specs.Answers.{badIndex}
 use Rattle.geometry.specs.declared.Geometry.{Geometry}
 use Rattle.geometry.specs.Geometry.{allowed, ringOf}
 use Rattle.records.specs.Unread.{SameToDriver}
-use Rattle.entries.specs.Lookup.{lookupAnswer, lookupPart, SameToDriver as SamePages}
+use Rattle.entries.specs.Lookup.{lookupAnswer, lookupPart, SameEntries}
 use Rattle.assembly.specs.declared.Driver.{Driver}
 use Rattle.driver.specs.Step.{isValid, stepOf}
 use Rattle.copy_out.specs.CopyOut.{copyOf}
 use Rattle.device.specs.Call.{isCall}
 use Rattle.delivery.specs.World.{World, Call, write, call}
-use Rattle.delivery.specs.Log.{Entry, logOf, after, received, sent, numberIn, endsWithNothingToRead}
+use Rattle.delivery.specs.Log.{Entry, logOf, after, receivedLog, sentLog, numberIn, endsWithNothingToRead}
 use Rattle.delivery.specs.Pending.{pendingIn}
 use Rattle.delivery.specs.Premises.{IsFresh, AllBelong}
 
 -- Front part, with the rest in the ring, and all of them right after "nothing to read".
 pub record Delivered (geometry : Geometry) (world : World) (log : List Entry) : Type 0 where
-  pub front : received log ++ pendingIn geometry world ≡ sent log
-  pub all : endsWithNothingToRead log ≡ true → received log ≡ sent log
+  pub front : receivedLog log ++ pendingIn geometry world ≡ sentLog log
+  pub all : endsWithNothingToRead log ≡ true → receivedLog log ≡ sentLog log
 
 -- No state or geometry is refused.
 pub record StateHolds (geometry : Geometry) (world : World) : Type 0 where
@@ -78,7 +78,7 @@ CopyOutIndependent =
 
 abbrev pub LookupIndependent : Type 0
 LookupIndependent =
-    (geometry : Geometry) (left right : List ℕ) (slot : ℕ) → SamePages geometry left right
+    (geometry : Geometry) (left right : List ℕ) (slot : ℕ) → SameEntries geometry left right
     → (lookupAnswer geometry left slot ≡ lookupAnswer geometry right slot)
     × (lookupPart geometry left slot ≡ lookupPart geometry right slot)
 

@@ -33,7 +33,7 @@ pub data Item : Type 0 where
   gap : Item
   whole : (slot : ℕ) → List Event → Item
 
--- ---- received: the gaps and packets that steps answered
+-- ---- the received log: the gaps and packets that steps answered
 
 abbrev pub toldBy : Told → List ℕ → List Item
 toldBy (told.Refused number) buffer = []
@@ -51,11 +51,11 @@ receivedIn (numbered n) = []
 receivedIn (valued v) = []
 receivedIn (stepped told buffer) = toldBy told buffer
 
-abbrev pub received : List Entry → List Item
-received [] = []
-received (entry ∷ rest) = receivedIn (entry .answered) ++ received rest
+abbrev pub receivedLog : List Entry → List Item
+receivedLog [] = []
+receivedLog (entry ∷ rest) = receivedIn (entry .answered) ++ receivedLog rest
 
--- ---- sent: the packets answered 0, each after one gap if one was answered 7 since the last of them, or since switch-on
+-- ---- the sent log: the packets answered 0, each after one gap if one was answered 7 since the last of them, or since switch-on
 
 abbrev pub gapIf : Bool → List Item
 gapIf refused = cond refused (gap ∷ []) []
@@ -99,8 +99,8 @@ sentFrom sender (entry ∷ rest) =
     let now = sends sender (entry .did) (numberIn (entry .answered)) in
     now .items ++ sentFrom (now .next) rest
 
-abbrev pub sent : List Entry → List Item
-sent log = sentFrom atSwitchOn log
+abbrev pub sentLog : List Entry → List Item
+sentLog log = sentFrom atSwitchOn log
 
 -- ---- the last call was a step that answered 11
 

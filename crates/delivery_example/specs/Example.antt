@@ -16,7 +16,7 @@ use Rattle.device.specs.State.{freshDevice}
 use Rattle.hotplug_add.specs.Add.{afterAdd}
 use Rattle.registers.specs.Write.{withClientRev}
 use Rattle.delivery.specs.World.{World, Call, write, add, remove, packet, step, call}
-use Rattle.delivery.specs.Log.{Item, gap, whole, logOf, received, sent, endsWithNothingToRead}
+use Rattle.delivery.specs.Log.{Item, gap, whole, logOf, receivedLog, sentLog, endsWithNothingToRead}
 use Rattle.delivery.specs.Premises.{IsFresh, AllBelong}
 
 -- One page of records of 64 bytes: a ring of 63, so 62 records fit.
@@ -67,6 +67,6 @@ pub record Example : Type 0 where
   pub is-fresh : IsFresh (before .collector)
   pub is-on : start .device .on ≡ true
   pub is-allowed : AllBelong small start calls
-  pub is-received : received (logOf small start calls) ≡ items
-  pub is-sent : sent (logOf small start calls) ≡ items
+  pub is-received : receivedLog (logOf small start calls) ≡ items
+  pub is-sent : sentLog (logOf small start calls) ≡ items
   pub ends-dry : endsWithNothingToRead (logOf small start calls) ≡ true

@@ -11,12 +11,12 @@ use Rattle.entries.specs.Entry.{knownLength, entryAt}
 use Rattle.entries.specs.Lookup.{lookupRefusals}
 
 -- The output must have the length of an entry's known bytes: 1 otherwise. Then as for a lookup.
-abbrev pub copyRefusals : Geometry → List ℕ → ℕ → List ℕ → List (Bool × ℕ)
-copyRefusals geometry page slot out = (not (eqb (length out) knownLength), invalid) ∷ lookupRefusals geometry page slot
+abbrev pub entryCopyRefusals : Geometry → List ℕ → ℕ → List ℕ → List (Bool × ℕ)
+entryCopyRefusals geometry page slot out = (not (eqb (length out) knownLength), invalid) ∷ lookupRefusals geometry page slot
 
-unfoldable pub copyAnswer : Geometry → List ℕ → ℕ → List ℕ → ℕ
-copyAnswer geometry page slot out = firstRefusal (copyRefusals geometry page slot out)
+unfoldable pub entryCopyAnswer : Geometry → List ℕ → ℕ → List ℕ → ℕ
+entryCopyAnswer geometry page slot out = firstRefusal (entryCopyRefusals geometry page slot out)
 
 -- A refusal leaves the output as it was.
 unfoldable pub copiedEntry : Geometry → List ℕ → ℕ → List ℕ → List ℕ
-copiedEntry geometry page slot out = cond (eqb (copyAnswer geometry page slot out) done) (entryAt geometry page slot) out
+copiedEntry geometry page slot out = cond (eqb (entryCopyAnswer geometry page slot out) done) (entryAt geometry page slot) out

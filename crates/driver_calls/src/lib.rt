@@ -9,7 +9,7 @@ ghost use mathlib.Core.Path.{_≡_};
 ghost use Rattle.assembly.specs.Transition.{freshDriver};
 ghost use Rattle.driver.specs.Step.{stepOf};
 ghost use Rattle.copy_out.specs.CopyOut.{copyOf};
-ghost use Rattle.driver_calls.specs.Entry.{copyAnswer, copiedEntry};
+ghost use Rattle.driver_calls.specs.Entry.{entryCopyAnswer, copiedEntry};
 ghost use Rattle.driver_calls.specs.Told.{numbersOf, steppedOf};
 
 // What a step tells, as numbers.
@@ -123,7 +123,7 @@ pub extern "C" fn thayarqo_copy_out(
 
 #[no_mangle]
 pub extern "C" fn thayarqo_lookup(geometry: Geometry, page: &[u8], slot: u32, out: &mut [u8]) -> u8
-    ensures { λ r. ⌜ (r ≡ copyAnswer geometry (now (page .entry)) slot (now (out .entry))) × (now (out .exit) ≡ copiedEntry geometry (now (page .entry)) slot (now (out .entry))) ⌝ }
+    ensures { λ r. ⌜ (r ≡ entryCopyAnswer geometry (now (page .entry)) slot (now (out .entry))) × (now (out .exit) ≡ copiedEntry geometry (now (page .entry)) slot (now (out .entry))) ⌝ }
 {
     if out.len() != entries::KNOWN_LENGTH {
         return INVALID;

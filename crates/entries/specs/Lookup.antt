@@ -28,6 +28,6 @@ abbrev pub lookupPart : Geometry → List ℕ → ℕ → List ℕ
 lookupPart geometry page slot = cond (eqb (lookupAnswer geometry page slot) done) (entryAt geometry page slot) []
 
 -- Two pages that are the same to a driver: it knows the first 68 bytes of each entry.
-pub record SameToDriver (geometry : Geometry) (left right : List ℕ) : Type 0 where
+pub record SameEntries (geometry : Geometry) (left right : List ℕ) : Type 0 where
   pub same-length : length left ≡ length right
   pub same-entries : (slot : ℕ) → slot < slotCount geometry → Agree left right (entryPlace geometry slot) knownLength

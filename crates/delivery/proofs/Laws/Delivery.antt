@@ -8,7 +8,8 @@ use Rattle.copy_out.proofs.Laws.Unknown.{same-copy}
 use Rattle.entries.proofs.Laws.Lookup.{same-lookup}
 use Rattle.pending.proofs.Laws.Pending.{pending-is}
 use Rattle.delivery.specs.World.{World, Call, read, write, add, remove, packet, step, call}
-use Rattle.delivery.specs.Log.{Item, Entry, Sender, logOf, after, receivedIn, received, sentFrom, sent, endsWithNothingToReadFrom}
+use Rattle.delivery.specs.Log.{Item, Entry, Sender, logOf, after, receivedIn, receivedLog, sentFrom, sentLog}
+use Rattle.delivery.specs.Log.{endsWithNothingToReadFrom}
 use Rattle.delivery.specs.Pending.{driverReader}
 use Rattle.delivery.specs.Premises.{Belongs, AllBelong}
 use Rattle.delivery.specs.Demand3.{NoBadIndex, Delivery, Demand3}
@@ -32,7 +33,7 @@ kept geometry world h step ok = step-kept geometry world h
 record Along (geometry : Geometry) (world : World) (pending : List Item) (calls : List Call) : Type 0 where
   still : List Item
   invariant : Invariant geometry (after geometry world calls) still
-  log : received (logOf geometry world calls) ++ still ≡ pending ++ sentFrom (senderOf (world .device)) (logOf geometry world calls)
+  log : receivedLog (logOf geometry world calls) ++ still ≡ pending ++ sentFrom (senderOf (world .device)) (logOf geometry world calls)
   dry : (before : Bool) → (before ≡ true → pending ≡ []) → endsWithNothingToReadFrom before (logOf geometry world calls) ≡ true → still ≡ []
   no-bad-index : NoBadIndex (logOf geometry world calls)
 
@@ -65,7 +66,7 @@ along geometry (next ∷ rest) world {pending} h ok =
     record {
       still = a .still;
       invariant = a .invariant;
-      log = both-logs pending (receivedIn (result .answer)) (received log) (a .still) (k .still) _ log (a .log) (k .log) (k .sender);
+      log = both-logs pending (receivedIn (result .answer)) (receivedLog log) (a .still) (k .still) _ log (a .log) (k .log) (k .sender);
       dry = λ before none ends. a .dry _ (k .dry) ends;
       no-bad-index = (k .not-ten, a .no-bad-index);
     }
@@ -76,13 +77,13 @@ delivery geometry ok world fresh off offset width value on calls belong =
     let a = along geometry calls start (start-holds geometry world fresh off offset width value on) belong in
     let log : List Entry = logOf geometry start calls in
     let nothing-lost = start-not-lost geometry world fresh off offset width value on in
-    let whole-log : received log ++ a .still ≡ sent log
+    let whole-log : receivedLog log ++ a .still ≡ sentLog log
     = a .log ∙ ap (λ (lost : Bool). sentFrom (record { refused = lost }) log) nothing-lost in
-    let with : List Item → List Item = λ items. received log ++ items in
+    let with : List Item → List Item = λ items. receivedLog log ++ items in
     record {
       delivered = record {
         front = ap with (pending-is (driverReader geometry) (a .invariant .ahead)) ∙ whole-log;
-        all = λ ends. sym (append-nil (received log)) ∙ ap with (sym (a .dry false (λ z. refl) ends)) ∙ whole-log;
+        all = λ ends. sym (append-nil (receivedLog log)) ∙ ap with (sym (a .dry false (λ z. refl) ends)) ∙ whole-log;
       };
       state-holds = record {
         device-holds = a .invariant .called;

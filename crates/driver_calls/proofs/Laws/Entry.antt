@@ -16,11 +16,11 @@ use Rattle.geometry.specs.Geometry.{entryPlace}
 use Rattle.entries.specs.Entry.{entryAt}
 use Rattle.entries.specs.Lookup.{lookupAnswer, lookupPart}
 use Rattle.entries.proofs.Laws.Lookup.{found-inside}
-use Rattle.driver_calls.specs.Entry.{copyAnswer, copiedEntry}
+use Rattle.driver_calls.specs.Entry.{entryCopyAnswer, copiedEntry}
 
 module _ (geometry : Geometry) (page : List ℕ) (slot : ℕ) (out : List ℕ) where
-  pub wrong-length : length out ≢ 68 → (1 ≡ copyAnswer geometry page slot out) × (out ≡ copiedEntry geometry page slot out)
-  unfolding copyAnswer copiedEntry firstRefusal
+  pub wrong-length : length out ≢ 68 → (1 ≡ entryCopyAnswer geometry page slot out) × (out ≡ copiedEntry geometry page slot out)
+  unfolding entryCopyAnswer copiedEntry firstRefusal
   wrong-length n = (rw (ne-eqb (length out) 68 n), rw (ne-eqb (length out) 68 n))
 
   module _ (size : length out ≡ 68) where
@@ -34,12 +34,12 @@ module _ (geometry : Geometry) (page : List ℕ) (slot : ℕ) (out : List ℕ) w
       | no n ↦ rw (e, ne-eqb (lookupAnswer geometry page slot) 0 n) (omega arith)
     ]
 
-    same-answer : copyAnswer geometry page slot out ≡ lookupAnswer geometry page slot
-    unfolding copyAnswer firstRefusal
+    same-answer : entryCopyAnswer geometry page slot out ≡ lookupAnswer geometry page slot
+    unfolding entryCopyAnswer firstRefusal
     same-answer = rw (eq-eqb (length out) 68 size)
 
     pub copied : {answer : ℕ} {part after : List ℕ} → answer ≡ lookupAnswer geometry page slot → part ≡ lookupPart geometry page slot → after ≡ overwrite out 0 part
-        → (answer ≡ copyAnswer geometry page slot out) × (after ≡ copiedEntry geometry page slot out)
+        → (answer ≡ entryCopyAnswer geometry page slot out) × (after ≡ copiedEntry geometry page slot out)
     unfolding copiedEntry
     copied a p e = (
       a ∙ sym same-answer,

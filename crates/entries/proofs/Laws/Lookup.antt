@@ -15,7 +15,7 @@ use Rattle.geometry.specs.Geometry.{allowed, slotCount, entryPlace}
 use Rattle.geometry.proofs.Laws.Allowed.{sizes}
 use Rattle.geometry.proofs.Laws.Slots.{entry-inside}
 use Rattle.entries.specs.Entry.{entryAt}
-use Rattle.entries.specs.Lookup.{lookupAnswer, lookupPart, SameToDriver}
+use Rattle.entries.specs.Lookup.{lookupAnswer, lookupPart, SameEntries}
 
 -- the 68 bytes from a slot's place on
 pub known-part : (geometry : Geometry) (page : List ℕ) (slot : ℕ) {start : ℕ} → start ≡ entryPlace geometry slot → take (start + 68 - start) (drop start page) ≡ entryAt geometry page slot
@@ -40,7 +40,7 @@ found-inside geometry page slot h =
 
 -- ---- what a driver doesn't know of a page changes no lookup
 
-module _ (geometry : Geometry) (left right : List ℕ) (slot : ℕ) (same : SameToDriver geometry left right) where
+module _ (geometry : Geometry) (left right : List ℕ) (slot : ℕ) (same : SameEntries geometry left right) where
   same-entry : allowed geometry ≡ true → length left ≡ 4096 → slot < slotCount geometry → entryAt geometry left slot ≡ entryAt geometry right slot
   same-entry ok size low =
       let n = known-inside geometry slot ok low in
