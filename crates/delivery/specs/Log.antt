@@ -80,6 +80,7 @@ pub record Sends : Type 0 where
 abbrev pub nothing : Sender → Sends
 nothing sender = record { items = []; next = sender }
 
+-- A packet answered 0 is sent, after a gap where one was refused before it; one answered 7 is remembered.
 abbrev pub sendsPacket : Sender → ℕ → List Event → ℕ → Sends
 sendsPacket sender slot events n =
     cond (eqb n done) (record { items = gapIf (sender .refused) ++ (whole slot events ∷ []); next = record { refused = false } })

@@ -12,7 +12,8 @@ use Rattle.geometry.specs.declared.Geometry.{Geometry}
 use Rattle.geometry.specs.Geometry.{areaLength}
 use Rattle.geometry.proofs.Laws.Allowed.{both}
 use Rattle.access.specs.declared.Place.{Place}
-use Rattle.access.specs.declared.Place.the-variants.{Magic, Rev, Control, EventSize, Npages, Acceleration, Isr, ConfSize, ClientRev, ReadPtr, EventArea, EntryPage, Nothing}
+use Rattle.access.specs.declared.Place.the-variants.{Magic, Rev, Control, EventSize, Npages, Acceleration, Isr, ConfSize, ClientRev}
+use Rattle.access.specs.declared.Place.the-variants.{ReadPtr, EventArea, EntryPage, Nothing}
 use Rattle.access.specs.Place.{registers, placeIn, placeOf}
 
 -- places of the first page
@@ -73,8 +74,11 @@ module _ (geometry : Geometry) (offset : ℕ) where
 
   pub area-ends : placeOf geometry offset ≡ EventArea → offset < 0x1000 + areaLength geometry
   unfolding placeOf
-  area-ends e = ltb-true offset (0x1000 + areaLength geometry) (is-area (eqb offset 0x1000) _ (rw (le-ltb offset 0x1000 (area-begins e)) at e))
+  area-ends e =
+      ltb-true offset (0x1000 + areaLength geometry) (is-area (eqb offset 0x1000) _ (rw (le-ltb offset 0x1000 (area-begins e)) at e))
 
   pub page-begins : placeOf geometry offset ≡ EntryPage → 0x1000 + areaLength geometry ≤ offset
   unfolding placeOf isFirst
-  page-begins e = ltb-false offset (0x1000 + areaLength geometry) (is-page (eqb offset 0x1000) _ (rw (le-ltb offset 0x1000 (behind EntryPage refl e)) at e))
+  page-begins e =
+      let high = le-ltb offset 0x1000 (behind EntryPage refl e) in
+      ltb-false offset (0x1000 + areaLength geometry) (is-page (eqb offset 0x1000) _ (rw high at e))

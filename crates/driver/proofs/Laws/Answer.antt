@@ -14,7 +14,8 @@ use Rattle.records.specs.Unread.{recordAt}
 use Rattle.assembly.specs.declared.Driver.{Driver}
 use Rattle.assembly.specs.declared.Stepped.{Stepped}
 use Rattle.assembly.specs.declared.Kind.{Kind}
-use Rattle.assembly.specs.declared.Kind.the-variants.{SynReport, SynDropped, DevSet, DevConf, DevReset, DevResetAll, BadDevSet, BadDev, Other}
+use Rattle.assembly.specs.declared.Kind.the-variants.{SynReport, SynDropped, DevSet, DevConf, DevReset, DevResetAll}
+use Rattle.assembly.specs.declared.Kind.the-variants.{BadDevSet, BadDev, Other}
 use Rattle.assembly.specs.Kind.{kindOf}
 use Rattle.assembly.specs.Transition.{answerOf, reported, received}
 use Rattle.reading.specs.Reading.{readingRefusal}
@@ -35,7 +36,8 @@ report-answer driver = go (driver .ignoring) (driver .spoiled) (driver .overlong
     go false false false true p q r s = rw (p, q, r, s)
     go false false false false p q r s = rw (p, q, r, s)
 
-record-answer : (kind : Kind) (event : Event) (driver : Driver) → answerOf (received kind event driver .told) ≡ cond (isMalformed kind driver) 9 0
+record-answer : (kind : Kind) (event : Event) (driver : Driver)
+    → answerOf (received kind event driver .told) ≡ cond (isMalformed kind driver) 9 0
 record-answer SynReport event driver = report-answer driver
 record-answer SynDropped event driver = refl
 record-answer DevSet event driver = refl
@@ -50,20 +52,25 @@ module _ (geometry : Geometry) (driver : Driver) (area packet : List ℕ) where
   step-answer : answerOf (stepOf geometry driver area packet .stepped .told) ≡ stepAnswer geometry driver area packet
   unfolding stepOf oldestOf readingRefusal firstRefusal
   step-answer =
-      go (isValid geometry driver (length area) (length packet)) (leb (ringLength geometry) (readPointer area)) (leb (ringLength geometry) (writePointer area))
+      go (isValid geometry driver (length area) (length packet))
+      (leb (ringLength geometry) (readPointer area)) (leb (ringLength geometry) (writePointer area))
       (eqb (readPointer area) (writePointer area)) refl refl refl refl
     where
-      go : (a b c d : Bool) → isValid geometry driver (length area) (length packet) ≡ a → leb (ringLength geometry) (readPointer area) ≡ b → leb (ringLength geometry) (writePointer area) ≡ c
-          → eqb (readPointer area) (writePointer area) ≡ d → answerOf (stepOf geometry driver area packet .stepped .told) ≡ stepAnswer geometry driver area packet
+      go : (a b c d : Bool) → isValid geometry driver (length area) (length packet) ≡ a
+          → leb (ringLength geometry) (readPointer area) ≡ b → leb (ringLength geometry) (writePointer area) ≡ c
+          → eqb (readPointer area) (writePointer area) ≡ d
+          → answerOf (stepOf geometry driver area packet .stepped .told) ≡ stepAnswer geometry driver area packet
       go false b c d p q r s = rw p
       go true true c d p q r s = rw (p, q)
       go true false true d p q r s = rw (p, q, r)
       go true false false true p q r s = rw (p, q, r, s)
       go true false false false p q r s =
-          rw (p, q, r, s) (record-answer (kindOf geometry (recordAt (ringOf geometry) area (readPointer area))) (recordAt (ringOf geometry) area (readPointer area)) driver)
+          let event : Event = recordAt (ringOf geometry) area (readPointer area) in
+          rw (p, q, r, s) (record-answer (kindOf geometry event) event driver)
 
   -- what a step leaves, with the number that it tells
   pub answered : {result : Stepped} {area′ packet′ : List ℕ} → Leaves geometry driver area packet result area′ packet′
       → (result ≡ stepOf geometry driver area packet .stepped)
-      × ((area′ ≡ stepOf geometry driver area packet .area) × ((packet′ ≡ stepOf geometry driver area packet .packet) × (answerOf (result .told) ≡ stepAnswer geometry driver area packet)))
+      × ((area′ ≡ stepOf geometry driver area packet .area) × ((packet′ ≡ stepOf geometry driver area packet .packet)
+      × (answerOf (result .told) ≡ stepAnswer geometry driver area packet)))
   answered e = (e .told, (e .area-left, (e .packet-left, ap (λ (s : Stepped). answerOf (s .told)) (e .told) ∙ step-answer)))

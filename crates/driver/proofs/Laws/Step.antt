@@ -28,7 +28,8 @@ pub record Valid (geometry : Geometry) (driver : Driver) (areaSize packetSize : 
   pub is-sized : areaSize ≡ areaLength geometry
   pub holds-packet : packetSize ≡ packetLength
 
-pub valid : (geometry : Geometry) (driver : Driver) (areaSize packetSize : ℕ) → isValid geometry driver areaSize packetSize ≡ true → Valid geometry driver areaSize packetSize
+pub valid : (geometry : Geometry) (driver : Driver) (areaSize packetSize : ℕ) → isValid geometry driver areaSize packetSize ≡ true
+    → Valid geometry driver areaSize packetSize
 unfolding isValid
 valid geometry driver areaSize packetSize h =
     let a = both (isSized geometry areaSize) _ h in
@@ -54,14 +55,17 @@ module _ (geometry : Geometry) (driver : Driver) (area packet : List ℕ) where
   unfolding stepOf
   step-invalid h = record { told = rw h; area-left = rw h; packet-left = rw h }
 
-  pub step-refused : {number : ℕ} → isValid geometry driver (length area) (length packet) ≡ true → oldestOf (ringOf geometry) area ≡ oldest.Refused number
+  pub step-refused : {number : ℕ} → isValid geometry driver (length area) (length packet) ≡ true
+      → oldestOf (ringOf geometry) area ≡ oldest.Refused number
       → Leaves geometry driver area packet (tells (told.Refused number) driver) area packet
   unfolding stepOf
   step-refused h e = record { told = rw (h, e); area-left = rw (h, e); packet-left = rw (h, e) }
 
-  pub step-received : {index : ℕ} {event : Event} {area′ packet′ : List ℕ} {result : Stepped} → isValid geometry driver (length area) (length packet) ≡ true
+  pub step-received : {index : ℕ} {event : Event} {area′ packet′ : List ℕ} {result : Stepped}
+      → isValid geometry driver (length area) (length packet) ≡ true
       → oldestOf (ringOf geometry) area ≡ oldest.Record index event → result ≡ receive geometry event driver
-      → area′ ≡ withReadPointer area (nextIndex (ringOf geometry) index) → packet′ ≡ collected driver (receive geometry event driver .driver) event packet
+      → area′ ≡ withReadPointer area (nextIndex (ringOf geometry) index)
+      → packet′ ≡ collected driver (receive geometry event driver .driver) event packet
       → Leaves geometry driver area packet result area′ packet′
   unfolding stepOf
   step-received h e r a p = record { told = r ∙ rw (h, e); area-left = a ∙ rw (h, e); packet-left = p ∙ rw (h, e) }

@@ -21,9 +21,11 @@ use Rattle.driver.proofs.Laws.Step.{valid, valid-holds}
 
 module _ (geometry : Geometry) (driver : Driver) (packet left right : List ℕ) (same : SameToDriver (ringOf geometry) left right) where
   Same : StepResult → StepResult → Type 0
-  Same one other = (one .stepped ≡ other .stepped) × (one .packet ≡ other .packet) × SameToDriver (ringOf geometry) (one .area) (other .area)
+  Same one other =
+      (one .stepped ≡ other .stepped) × (one .packet ≡ other .packet) × SameToDriver (ringOf geometry) (one .area) (other .area)
 
-  same-on : (oldest : Oldest) → Holds (length left) (ringOf geometry) → Same (stepOn geometry driver left packet oldest) (stepOn geometry driver right packet oldest)
+  same-on : (oldest : Oldest) → Holds (length left) (ringOf geometry)
+      → Same (stepOn geometry driver left packet oldest) (stepOn geometry driver right packet oldest)
   unfolding Same
   same-on (Record index event) holds = (refl, refl, same-moved (ringOf geometry) left right same holds (nextIndex (ringOf geometry) index))
   same-on (Refused number) holds = (refl, refl, same)
@@ -34,8 +36,10 @@ module _ (geometry : Geometry) (driver : Driver) (packet left right : List ℕ) 
   unfolding stepOf Same
   same-step = go (isValid geometry driver (length left) (length packet)) refl
     where
-      go : (test : Bool) → isValid geometry driver (length left) (length packet) ≡ test → Same (stepOf geometry driver left packet) (stepOf geometry driver right packet)
+      go : (test : Bool) → isValid geometry driver (length left) (length packet) ≡ test
+          → Same (stepOf geometry driver left packet) (stepOf geometry driver right packet)
       go false h = rw (← same .same-length, h) (refl, refl, same)
       go true h =
           let s = sizes geometry (valid geometry driver (length left) (length packet) h .is-allowed) in
-          rw (← same .same-length, h, same-oldest (ringOf geometry) left right (omega (arith, s .ring-low)) same) (same-on (oldestOf (ringOf geometry) right) (valid-holds geometry driver left packet h))
+          rw (← same .same-length, h, same-oldest (ringOf geometry) left right (omega (arith, s .ring-low)) same)
+          (same-on (oldestOf (ringOf geometry) right) (valid-holds geometry driver left packet h))

@@ -23,7 +23,12 @@ is-driver-requires c κs = sized _ _ (sym (c .before .before .is-sized .ensures)
 
 returns-3 : tie.Need-returns-3
 unfolding isValid
-returns-3 c = rw (sym (c .before .before .before .is-sized .ensures) ∙ not-false _ (c .before .before .if1 .left), eq-eqb _ _ (c .before .if2 .left), c .is-driver .ensures)
+returns-3 c =
+    rw (
+      sym (c .before .before .before .is-sized .ensures) ∙ not-false _ (c .before .before .if1 .left),
+      eq-eqb _ _ (c .before .if2 .left),
+      c .is-driver .ensures,
+    )
 
 pub is-valid-spec : {M : Type 1} → statement M
 is-valid-spec = tie.close (tie.spec is-sized-requires returns returns-2 is-driver-requires returns-3)

@@ -26,7 +26,8 @@ module _ (geometry : Geometry) (page : List ℕ) (slot : ℕ) (out : List ℕ) w
   module _ (size : length out ≡ 68) where
     found-length : lookupAnswer geometry page slot ≡ 0 → length (entryAt geometry page slot) ≡ 68
     found-length found =
-        length-take-le 68 (drop (entryPlace geometry slot) page) (rw (length-drop (entryPlace geometry slot) page) (omega (arith, found-inside geometry page slot found)))
+        let inside = found-inside geometry page slot found in
+        length-take-le 68 (drop (entryPlace geometry slot) page) (rw (length-drop (entryPlace geometry slot) page) (omega (arith, inside)))
 
     pub part-fits : {part : List ℕ} → part ≡ lookupPart geometry page slot → 0 + length part ≤ length out
     part-fits e = elim (ℕ-discrete (lookupAnswer geometry page slot) 0) [
@@ -38,7 +39,8 @@ module _ (geometry : Geometry) (page : List ℕ) (slot : ℕ) (out : List ℕ) w
     unfolding entryCopyAnswer firstRefusal
     same-answer = rw (eq-eqb (length out) 68 size)
 
-    pub copied : {answer : ℕ} {part after : List ℕ} → answer ≡ lookupAnswer geometry page slot → part ≡ lookupPart geometry page slot → after ≡ overwrite out 0 part
+    pub copied : {answer : ℕ} {part after : List ℕ} → answer ≡ lookupAnswer geometry page slot → part ≡ lookupPart geometry page slot
+        → after ≡ overwrite out 0 part
         → (answer ≡ entryCopyAnswer geometry page slot out) × (after ≡ copiedEntry geometry page slot out)
     unfolding copiedEntry
     copied a p e = (
