@@ -1,1 +1,1 @@
-// A run that demand 3 speaks of, computed from the definitions that the contracts cite. It has no code of its own.
+// The theorem of delivery applied to a run in which everything happens, and the log of that run, computed. There is no code here.

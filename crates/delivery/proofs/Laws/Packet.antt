@@ -29,8 +29,7 @@ use Rattle.delivery.specs.World.{World, Result, numbered, packet, call}
 use Rattle.delivery.specs.Log.{Item, whole, gapIf}
 use Rattle.delivery.proofs.Laws.Fit.{fit-packet}
 use Rattle.delivery.proofs.Laws.State.{called-with, call-device, lost-rules, packet-rules}
-use Rattle.delivery.proofs.Laws.Runs.{Runs, packet-runs}
-use Rattle.delivery.proofs.Laws.Holding.{Holding}
+use Rattle.delivery.proofs.Laws.Runs.{packet-runs}
 use Rattle.delivery.proofs.Laws.Invariant.{Invariant, Kept, writeIndex, currentSlot, known, leftBy, appended}
 
 -- The records of a packet, and the index after them.

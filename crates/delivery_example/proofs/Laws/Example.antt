@@ -1,4 +1,4 @@
--- The example, by computation.
+-- The theorem of delivery applied to the run: its premises are computed, but that the calls belong, which mostly holds in any world.
 use Prim.Native.Nat.{ℕ, zero, suc}
 use mathlib.Core.Path.{refl}
 use mathlib.Core.List.{List, [], _∷_, _++_}
@@ -7,6 +7,7 @@ use lib.ListN.{replicate}
 use Rattle.copying.specs.Copying.{overwrite}
 use Rattle.words.specs.Words.{IsBytes}
 use Rattle.answers.specs.Refusals.{firstRefusal}
+use Rattle.geometry.specs.declared.Geometry.{Geometry}
 use Rattle.geometry.specs.Geometry.{isRecordSize, isEntrySize, allowed}
 use Rattle.bits.specs.Bits.{bit}
 use Rattle.records.specs.Event.{eventBytes, eventAt, eventsFrom}
@@ -28,13 +29,17 @@ use Rattle.hotplug_remove.specs.Remove.{removeAnswer, removeOf}
 use Rattle.access.specs.Access.{accessAnswer}
 use Rattle.access.specs.Place.{placeIn, placeOf}
 use Rattle.switch_on.specs.SwitchOn.{takenFrom, switchOn}
-use Rattle.registers.specs.Write.{controlOf, writeOf}
-use Rattle.geometry.specs.declared.Geometry.{Geometry}
-use Rattle.delivery.specs.World.{World, Call, add, remove, packet, step, call}
+use Rattle.registers.specs.Read.{readOf}
+use Rattle.registers.specs.Write.{controlOf, clientRevOf, writeOf}
+use Rattle.delivery.specs.World.{World, Call, write, step, call}
 use Rattle.delivery.specs.Log.{after}
-use Rattle.delivery.specs.Premises.{AllBelong}
-use Rattle.delivery_example.specs.Example.{small, mouse, start, motions, later, calls, Example}
+use Rattle.delivery.specs.Premises.{IsFresh, AllBelong}
+use Rattle.delivery.proofs.Laws.Delivery.{delivery}
+use Rattle.delivery_example.specs.Example.{small, before, start, motions, accesses, refusals, reads, later, calls, Example}
 
+-- ---- the calls belong
+
+-- the bytes of a packet are bytes
 is-packet : (count value : ℕ) → IsBytes (motions count value)
 unfolding eventBytes
 is-packet zero value i = omega arith
@@ -48,31 +53,80 @@ is-packet (suc count) value (suc (suc (suc (suc (suc (suc zero)))))) = omega ari
 is-packet (suc count) value (suc (suc (suc (suc (suc (suc (suc zero))))))) = omega arith
 is-packet (suc count) value (suc (suc (suc (suc (suc (suc (suc (suc i)))))))) = is-packet count value i
 
--- steps are always allowed
-steps-then : (geometry : Geometry) (count : ℕ) (world : World) (rest : List Call) → AllBelong geometry (after geometry world (replicate count step)) rest
-    → AllBelong geometry world (replicate count step ++ rest)
-steps-then geometry zero world rest ok = ok
-steps-then geometry (suc count) world rest ok = (tt, steps-then geometry count (call geometry world step .world) rest ok)
+-- one list after the other
+belong-then : (geometry : Geometry) (first rest : List Call) (world : World) → AllBelong geometry world first
+    → AllBelong geometry (after geometry world first) rest → AllBelong geometry world (first ++ rest)
+belong-then geometry [] rest world a b = b
+belong-then geometry (next ∷ more) rest world a b = (a .0, belong-then geometry more rest (call geometry world next .world) (a .1) b)
 
 steps : (geometry : Geometry) (count : ℕ) (world : World) → AllBelong geometry world (replicate count step)
 steps geometry zero world = tt
 steps geometry (suc count) world = (tt, steps geometry count (call geometry world step .world))
 
-later-allowed : (world : World) → AllBelong small world later
-later-allowed world = (is-packet 1 3, (tt, (tt, (is-packet 2 4, steps small 11 (after small world (packet 4 (motions 1 3) ∷ remove 4 ∷ add 4 mouse ∷ packet 4 (motions 2 4) ∷ []))))))
+refusals-belong : (world : World) → AllBelong small world refusals
+refusals-belong world = (is-packet 32 1, (is-packet 32 2, (tt, (tt, tt))))
 
-all-allowed : AllBelong small start calls
-all-allowed =
-    let refused : World = after small start (packet 4 (motions 32 1) ∷ packet 4 (motions 32 2) ∷ []) in
-    (is-packet 32 1, (is-packet 32 2, steps-then small 37 refused later (later-allowed (after small refused (replicate 37 step)))))
+later-belong : (world : World) → AllBelong small world later
+later-belong world = (is-packet 1 3, (tt, (tt, (tt, (is-packet 1 5, (is-packet 2 4, tt))))))
+
+-- The worlds between.
+abbrev afterAccesses : World
+afterAccesses = after small start accesses
+
+abbrev afterRefusals : World
+afterRefusals = after small afterAccesses refusals
+
+abbrev afterSteps : World
+afterSteps = after small afterRefusals (replicate 37 step)
+
+abbrev afterReads : World
+afterReads = after small afterSteps (write 0x1000 4 36 ∷ [])
+
+-- the writes leave the device on and the read pointer where it was
+accesses-belong : AllBelong small start accesses
+unfolding overwrite firstRefusal isRecordSize isEntrySize allowed bit eventBytes eventAt putRecord putRecords indexAfter
+    clientRevRule currentRule isDevice sizedCall isCall addAnswer addOf accessAnswer placeIn placeOf takenFrom switchOn
+    controlOf clientRevOf writeOf readOf call
+accesses-belong = (tt, (record { on = refl; same-read-pointer = refl }, (record { on = refl; same-read-pointer = refl }, tt)))
+
+pointer-belongs : AllBelong small afterSteps (write 0x1000 4 36 ∷ [])
+unfolding overwrite firstRefusal isRecordSize isEntrySize allowed bit eventBytes eventAt eventsFrom putRecord putRecords indexAfter
+    offersCode isOffered devKind kindOf spoiled joined reported withoutSlot collected isSized readingRefusal oldestOf
+    isDriver isValid stepOf clientRevRule currentRule isDevice sizedCall isCall allOffered packetAnswer packetOf
+    addAnswer addOf removeAnswer removeOf accessAnswer placeIn placeOf takenFrom switchOn controlOf clientRevOf writeOf readOf call
+pointer-belongs = (record { on = refl; same-read-pointer = refl }, tt)
+
+reads-belong : AllBelong small afterRefusals reads
+reads-belong = belong-then small (replicate 37 step) (write 0x1000 4 36 ∷ []) afterRefusals (steps small 37 afterRefusals) pointer-belongs
+
+end-belongs : AllBelong small afterReads (later ++ replicate 15 step)
+end-belongs =
+    belong-then small later (replicate 15 step) afterReads (later-belong afterReads) (steps small 15 (after small afterReads later))
+
+all-belong : AllBelong small start calls
+all-belong =
+    belong-then small accesses (refusals ++ (reads ++ (later ++ replicate 15 step))) start accesses-belong
+    (belong-then small refusals (reads ++ (later ++ replicate 15 step)) afterAccesses (refusals-belong afterAccesses)
+    (belong-then small reads (later ++ replicate 15 step) afterRefusals reads-belong end-belongs))
+
+-- ---- the run
 
 pub example : Example
-unfolding overwrite firstRefusal isRecordSize isEntrySize allowed bit eventBytes eventAt eventsFrom putRecord putRecords indexAfter offersCode isOffered devKind kindOf spoiled joined reported withoutSlot collected isSized readingRefusal oldestOf isDriver isValid stepOf clientRevRule currentRule isDevice sizedCall isCall allOffered packetAnswer packetOf addAnswer addOf removeAnswer removeOf accessAnswer placeIn placeOf takenFrom switchOn controlOf writeOf call
-example = record {
-  is-fresh = record { is-fresh = refl; size = refl };
-  is-on = refl;
-  is-allowed = all-allowed;
-  is-received = refl;
-  is-sent = refl;
-  ends-dry = refl;
-}
+unfolding overwrite firstRefusal isRecordSize isEntrySize allowed bit eventBytes eventAt eventsFrom putRecord putRecords indexAfter
+    offersCode isOffered devKind kindOf spoiled joined reported withoutSlot collected isSized readingRefusal oldestOf
+    isDriver isValid stepOf clientRevRule currentRule isDevice sizedCall isCall allOffered packetAnswer packetOf
+    addAnswer addOf removeAnswer removeOf accessAnswer placeIn placeOf takenFrom switchOn controlOf clientRevOf writeOf readOf call
+example =
+    let fresh : IsFresh (before .collector) = record { is-fresh = refl; size = refl } in
+    record {
+      is-allowed = refl;
+      is-fresh = fresh;
+      is-off = refl;
+      is-on = refl;
+      all-belong = all-belong;
+      after-list = delivery small refl before fresh refl 0x100 4 1 refl calls all-belong;
+      is-answered = refl;
+      is-received = refl;
+      is-sent = refl;
+      ends-dry = refl;
+    }

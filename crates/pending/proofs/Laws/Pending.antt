@@ -18,7 +18,6 @@ use Rattle.records.proofs.Laws.Index.{next-inside}
 use Rattle.records.proofs.Laws.Put.{moved-read-pointer, moved-write-pointer}
 use Rattle.records.proofs.Laws.PutAll.{after-inside, puts-read-pointer, puts-write-pointer, puts-unread}
 use Rattle.records.proofs.Laws.Unread.{read-drops, none-unread}
-use Rattle.assembly.specs.Run.{givenBy}
 use Rattle.pending.specs.Reader.{Reader, pendingFor}
 use Rattle.pending.proofs.Laws.Runs.{Claim, Runs, none, then}
 
