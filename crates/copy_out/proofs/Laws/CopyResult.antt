@@ -28,36 +28,46 @@ Promise geometry area limit out copied area′ out′ =
     × (copied .answer ≡ 0 → copied .count ≡ unreadCount (ringOf geometry) (readPointer area) (readPointer area′))))
 
 module _ (geometry : Geometry) (area : List ℕ) (limit : ℕ) (out : List ℕ) where
-  refused : (number : ℕ) {copied : Copied} → number ≡ copyAnswer geometry area → (number ≡ 0 → ⊥) → copied ≡ refusedCopy number → Promise geometry area limit out copied area out
+  refused : (number : ℕ) {copied : Copied} → number ≡ copyAnswer geometry area → (number ≡ 0 → ⊥) → copied ≡ refusedCopy number
+      → Promise geometry area limit out copied area out
   unfolding copyOf
-  refused number {copied} e n r = (r ∙ rw (← e, ne-eqb number 0 n), (rw (← e, ne-eqb number 0 n), (rw (← e, ne-eqb number 0 n), λ z. absurd (n (sym (ap (λ (c : Copied). c .answer) r) ∙ z)))))
+  refused number {copied} e n r =
+      let some = ne-eqb number 0 n in
+      let answer : copied .answer ≡ number = ap (λ (c : Copied). c .answer) r in
+      (r ∙ rw (← e, some), (rw (← e, some), (rw (← e, some), λ z. absurd (n (sym answer ∙ z)))))
 
-  pub copy-invalid : {copied : Copied} → isSized geometry (length area) ≡ false → copied ≡ refusedCopy 1 → Promise geometry area limit out copied area out
+  pub copy-invalid : {copied : Copied} → isSized geometry (length area) ≡ false → copied ≡ refusedCopy 1
+      → Promise geometry area limit out copied area out
   unfolding firstRefusal
   copy-invalid h r = refused 1 (rw h) (λ e. omega arith) r
 
-  module _ (ok : isSized geometry (length area) ≡ true) {read write refusal : ℕ} (r : read ≡ readPointer area) (w : write ≡ writePointer area) (judged : refusal ≡ readingRefusal (ringOf geometry) read write) where
+  module _ (ok : isSized geometry (length area) ≡ true) {read write refusal : ℕ} (r : read ≡ readPointer area)
+      (w : write ≡ writePointer area) (judged : refusal ≡ readingRefusal (ringOf geometry) read write) where
     same-answer : refusal ≡ copyAnswer geometry area
     unfolding firstRefusal readingRefusal
     same-answer = judged ∙ rw (ok, r, w)
 
-    pub copy-refused : {copied : Copied} → (refusal ≡ 0 → ⊥) → copied ≡ refusedCopy refusal → Promise geometry area limit out copied area out
+    pub copy-refused : {copied : Copied} → (refusal ≡ 0 → ⊥) → copied ≡ refusedCopy refusal
+        → Promise geometry area limit out copied area out
     copy-refused n e = refused refusal same-answer n e
 
     -- as many records as allowed
-    module _ (none : refusal ≡ 0) {some few count : ℕ} (all : some ≡ unreadCount (ringOf geometry) read write) (fewest : few ≡ min limit (length out / 8)) (least : count ≡ min some few) where
+    module _ (none : refusal ≡ 0) {some few count : ℕ} (all : some ≡ unreadCount (ringOf geometry) read write)
+        (fewest : few ≡ min limit (length out / 8)) (least : count ≡ min some few) where
       count-below : count < ringOf geometry .length
       count-below =
           let p = possible (ringOf geometry) read write (sym judged ∙ none) in
           omega (arith, unread-below (ringOf geometry) read write (p .read-inside) (p .write-inside))
 
       -- the count is how far the read pointer moves
-      movement : {next : ℕ} → next ≡ (read + count) % ringOf geometry .length → count ≡ unreadCount (ringOf geometry) (readPointer area) (readPointer (withReadPointer area next))
+      movement : {next : ℕ} → next ≡ (read + count) % ringOf geometry .length
+          → count ≡ unreadCount (ringOf geometry) (readPointer area) (readPointer (withReadPointer area next))
       movement {next} moved =
           let p = possible (ringOf geometry) read write (sym judged ∙ none) in
           let holds = sized-holds geometry area ok in
           let high : next < ringOf geometry .length = rw moved (mod-lt (read + count) (omega (arith, p .read-inside))) in
-          let there : readPointer (withReadPointer area next) ≡ next = moved-read-pointer (ringOf geometry) area holds next (omega (arith, holds .small)) in
+          let there : readPointer (withReadPointer area next) ≡ next
+          = moved-read-pointer (ringOf geometry) area holds next (omega (arith, holds .small)) in
           rw (there, ← r) (sym (unread-unique (ringOf geometry) read count next (p .read-inside) count-below (sym moved)))
 
       pub copy-done : {next : ℕ} {area′ out′ : List ℕ} → next ≡ (read + count) % ringOf geometry .length

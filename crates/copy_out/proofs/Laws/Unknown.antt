@@ -28,7 +28,9 @@ same-copied ring left right holds some same index (suc count) =
 
 module _ (geometry : Geometry) (limit : ℕ) (out left right : List ℕ) (same : SameToDriver (ringOf geometry) left right) where
   same-refusal : copyAnswer geometry left ≡ copyAnswer geometry right
-  same-refusal = rw (same .same-length, same-read-pointer (ringOf geometry) left right same, same-write-pointer (ringOf geometry) left right same)
+  same-refusal =
+      let ring = ringOf geometry in
+      rw (same .same-length, same-read-pointer ring left right same, same-write-pointer ring left right same)
 
   SameCopy : Type 0
   SameCopy = (copyOf geometry left limit out .copied ≡ copyOf geometry right limit out .copied)
