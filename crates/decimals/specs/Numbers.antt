@@ -1,9 +1,10 @@
 -- Numbers as text (01, "kbdif ring and nodes"): 1 to 10 digits, no sign, no leading zero but "0", at most 4294967295.
 -- A text is read from its first byte on, up to the first byte that spoils it. An eleventh digit is among these: it makes the number too large.
 use Prim.Native.Nat.{ℕ, suc, _+_, _-_, _*_}
-use mathlib.Core.Bool.{Bool, not, cond, _&&_, _||_}
+use mathlib.Core.Bool.{Bool, true, not, cond, _&&_, _||_}
 use mathlib.Core.List.{List, [], _∷_}
 use lib.Dec.{ltb, eqb}
+use lib.ListN.{length, getD}
 use Rattle.answers.specs.Answers.{done, badSetting}
 use Rattle.decimals.specs.declared.Number.{Number}
 use Rattle.decimals.specs.declared.Number.the-variants.{Value, Bad}
@@ -50,3 +51,28 @@ readNumber (byte ∷ rest) = readRest 0 0 (byte ∷ rest)
 abbrev pub answerOf : Number → ℕ
 answerOf (Value value) = done
 answerOf (Bad place) = badSetting
+
+-- ---- which texts are bad
+
+unfoldable pub allDigits : List ℕ → Bool
+allDigits [] = true
+allDigits (byte ∷ rest) = not (noDigit byte) && allDigits rest
+
+-- What digits say, behind digits that say a number.
+unfoldable pub saidBy : ℕ → List ℕ → ℕ
+saidBy value [] = value
+saidBy value (byte ∷ rest) = saidBy (withDigit value byte) rest
+
+-- "0" has none.
+abbrev pub hasLeadingZero : List ℕ → Bool
+hasLeadingZero text = eqb (getD text 0 0) 48 && ltb 1 (length text)
+
+-- 1 to 10 digits, no sign, no leading zero but "0", at most 4294967295: all else is 12.
+abbrev pub textRefusals : List ℕ → List (Bool × ℕ)
+textRefusals text =
+    (eqb (length text) 0, badSetting)
+    ∷ (ltb 10 (length text), badSetting)
+    ∷ (not (allDigits text), badSetting)
+    ∷ (hasLeadingZero text, badSetting)
+    ∷ (tooLarge (saidBy 0 text), badSetting)
+    ∷ []

@@ -1,6 +1,7 @@
 // Unsigned decimals of 32 bits, read from text.
 ghost use mathlib.Core.Path.{_≡_};
-ghost use Rattle.decimals.specs.Numbers.{followsZero, nextNumber, readNumber};
+ghost use Rattle.answers.specs.Refusals.{firstRefusal};
+ghost use Rattle.decimals.specs.Numbers.{followsZero, nextNumber, readNumber, answerOf, textRefusals};
 
 // What a text says.
 pub enum Number {
@@ -39,7 +40,7 @@ fn next_number(place: usize, value: u32, byte: u8) -> Number
 }
 
 pub fn read_number(text: &[u8]) -> Number
-    ensures { λ r. ⌜ r ≡ readNumber (now (text .entry)) ⌝ }
+    ensures { λ r. ⌜ (answerOf r ≡ firstRefusal (textRefusals (now (text .entry)))) × (r ≡ readNumber (now (text .entry))) ⌝ }
 {
     if text.len() == 0 {
         return Number::Bad(0);

@@ -4,6 +4,7 @@ use Prim.Native.Nat.{ℕ}
 use mathlib.Core.Bool.{Bool, cond, _||_}
 use mathlib.Core.List.{List, [], _∷_}
 use lib.Dec.{ltb, eqb}
+use lib.ListN.{length, getD}
 use Rattle.answers.specs.Answers.{done, badSetting}
 use Rattle.decimals.specs.declared.Number.{Number}
 use Rattle.decimals.specs.Numbers.{readNumber, answerOf}
@@ -34,6 +35,14 @@ readFlag (byte ∷ rest) = cond (noFlag byte) (Flag.Bad 0) (flagEnds rest (eqb b
 abbrev pub flagAnswer : Flag → ℕ
 flagAnswer (Flag.Value value) = done
 flagAnswer (Flag.Bad place) = badSetting
+
+-- Flags are "0" or "1": all else is 12.
+abbrev pub flagRefusals : List ℕ → List (Bool × ℕ)
+flagRefusals text =
+    (eqb (length text) 0, badSetting)
+    ∷ (noFlag (getD text 0 0), badSetting)
+    ∷ (ltb 1 (length text), badSetting)
+    ∷ []
 
 -- A bad value changes nothing.
 abbrev pub withFlagRead : Settings → FlagName → Flag → Settings

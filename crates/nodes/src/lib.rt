@@ -6,9 +6,10 @@ use node_names::FlagName;
 use node_names::Node;
 use node_names::NumberName;
 ghost use mathlib.Core.Path.{_≡_};
+ghost use Rattle.answers.specs.Refusals.{firstRefusal};
 ghost use Rattle.decimals.specs.Numbers.{readNumber};
 ghost use Rattle.nodes.specs.Settings.{freshSettings, withFlag, withNumber};
-ghost use Rattle.nodes.specs.Nodes.{readFlag, afterFlag, afterNumber, readNode};
+ghost use Rattle.nodes.specs.Nodes.{readFlag, flagAnswer, flagRefusals, afterFlag, afterNumber, readNode};
 
 // What a flag's text says.
 enum Flag {
@@ -72,7 +73,7 @@ pub fn fresh() -> Settings
 }
 
 fn read_flag(text: &[u8]) -> Flag
-    ensures { λ r. ⌜ r ≡ readFlag (now (text .entry)) ⌝ }
+    ensures { λ r. ⌜ (flagAnswer r ≡ firstRefusal (flagRefusals (now (text .entry)))) × (r ≡ readFlag (now (text .entry))) ⌝ }
 {
     if text.len() == 0 {
         return Flag::Bad(0);

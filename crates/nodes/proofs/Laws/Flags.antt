@@ -1,17 +1,18 @@
 -- Laws of a flag's text: by its length and its first byte, as code sees them, and which texts are accepted.
 use Prim.Native.Nat.{ℕ, _≤_}
-use mathlib.Core.Path.{_≡_, refl, ap}
+use mathlib.Core.Path.{_≡_, refl, ap, _∙_}
 use mathlib.Core.Bool.{Bool, true, false, cond}
 use mathlib.Core.Logic.{_↔_}
 use mathlib.Core.List.{List, [], _∷_}
 use native.Mathlib.Omega.{arith}
-use borrow.Author.Tests.{lt-ltb, ltb-false, eqb-true, eqb-false}
+use borrow.Author.Tests.{lt-ltb, ltb-false, ne-eqb, eqb-true, eqb-false}
 use lib.Dec.{ltb, eqb}
 use lib.ListN.{length, getD}
+use Rattle.answers.specs.Refusals.{firstRefusal}
 use Rattle.text.specs.Ascii.{ascii}
 use Rattle.decimals.proofs.Laws.Step.{neither}
 use Rattle.nodes.specs.declared.Flag.{Flag}
-use Rattle.nodes.specs.Nodes.{noFlag, readFlag}
+use Rattle.nodes.specs.Nodes.{noFlag, readFlag, flagAnswer, flagRefusals}
 
 pub flag-of-nothing : (text : List ℕ) → length text ≡ 0 → Flag.Bad 0 ≡ readFlag text
 unfolding readFlag
@@ -19,11 +20,35 @@ flag-of-nothing [] h = refl
 flag-of-nothing (byte ∷ rest) h = absurd (omega arith)
 
 pub flag-of-text : (text : List ℕ) → (length text ≡ 0 → ⊥)
-    → readFlag text ≡ cond (noFlag (getD text 0 0)) (Flag.Bad 0) (cond (ltb 1 (length text)) (Flag.Bad 1) (Flag.Value (eqb (getD text 0 0) 49)))
+    → readFlag text
+    ≡ cond (noFlag (getD text 0 0)) (Flag.Bad 0) (cond (ltb 1 (length text)) (Flag.Bad 1) (Flag.Value (eqb (getD text 0 0) 49)))
 unfolding readFlag
 flag-of-text [] h = absurd (h refl)
 flag-of-text (byte ∷ []) h = refl
 flag-of-text (byte ∷ next ∷ rest) h = rw (lt-ltb 1 (length (byte ∷ next ∷ rest)) (omega arith))
+
+-- ---- 01's number of a text
+
+text-answer : (text : List ℕ) → flagAnswer (readFlag text) ≡ firstRefusal (flagRefusals text)
+unfolding readFlag firstRefusal
+text-answer [] = refl
+text-answer (byte ∷ []) = go (noFlag byte) refl
+  where
+    go : (other : Bool) → noFlag byte ≡ other → flagAnswer (readFlag (byte ∷ [])) ≡ firstRefusal (flagRefusals (byte ∷ []))
+    go true e = rw e
+    go false e = rw e
+text-answer (byte ∷ next ∷ rest) = go (noFlag byte) refl
+  where
+    go : (other : Bool) → noFlag byte ≡ other
+        → flagAnswer (readFlag (byte ∷ next ∷ rest)) ≡ firstRefusal (flagRefusals (byte ∷ next ∷ rest))
+    go true e = rw (ne-eqb (length (byte ∷ next ∷ rest)) 0 (λ z. omega arith), e)
+    go false e =
+        rw (ne-eqb (length (byte ∷ next ∷ rest)) 0 (λ z. omega arith), e, lt-ltb 1 (length (byte ∷ next ∷ rest)) (omega arith))
+
+-- What a text is answered, by its number and whole.
+pub answered : (text : List ℕ) {flag : Flag} → flag ≡ readFlag text
+    → (flagAnswer flag ≡ firstRefusal (flagRefusals text)) × (flag ≡ readFlag text)
+answered text e = (ap flagAnswer e ∙ text-answer text, e)
 
 -- ---- exactly "0" and "1" are accepted, and each says its flag
 

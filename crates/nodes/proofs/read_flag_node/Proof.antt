@@ -1,3 +1,4 @@
+-- Where the text says a flag it is stored; else the settings stay.
 use mathlib.Core.Path.{sym, _∙_}
 use Rattle.nodes.specs.Nodes.{afterFlag}
 use borrow.Author.Needs.{needs}
@@ -15,14 +16,15 @@ enum-told c = search needs
 
 returns : tie.Need-returns
 unfolding afterFlag
-returns c = rw (sym (c .before .before .read-flag .ensures) ∙ c .enum-told .given .1)
+returns c = rw (sym (c .before .before .read-flag .ensures .1) ∙ c .enum-told .given .1)
 
 with-flag-requires : tie.Need-with-flag-requires
 with-flag-requires c κs = search needs
 
 returns-2 : tie.Need-returns-2
 unfolding afterFlag
-returns-2 c = rw (sym (c .before .before .before .before .read-flag .ensures) ∙ c .before .before .flag .given .1, c .with-flag .ensures)
+returns-2 c =
+    rw (sym (c .before .before .before .before .read-flag .ensures .1) ∙ c .before .before .flag .given .1, c .with-flag .ensures)
 
 pub read-flag-node-spec : {M : Type 1} → statement M
 read-flag-node-spec =
