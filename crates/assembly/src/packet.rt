@@ -7,8 +7,8 @@ ghost use lib.ListN.{length};
 ghost use Rattle.assembly.specs.Collect.{packetLength, collected};
 ghost use Rattle.assembly.specs.Transition.{joined};
 
-// The most events, of eight bytes each.
-pub const PACKET_LENGTH: usize = MOST_EVENTS as usize * 8;
+// MOST_EVENTS events of eight bytes.
+pub const PACKET_LENGTH: usize = 256;
 
 // An event joins the packet: it is written behind those that are held. Nothing is written while events are ignored, nor after the 32nd.
 pub(crate) fn join(driver: Driver, event: Event, packet: &mut [u8]) -> Driver
