@@ -1,3 +1,4 @@
+-- The definition's two tests, in the order of the code.
 use Rattle.decimals.specs.Numbers.{followsZero}
 use borrow.Author.Tests.{eq-eqb, ne-eqb}
 use Rattle.decimals.proofs.follows_zero.Statement.{statement}

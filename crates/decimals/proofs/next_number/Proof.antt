@@ -1,3 +1,4 @@
+-- Each way out is the case of `spoils` that its tests pick.
 use Rattle.decimals.specs.Numbers.{spoils, nextNumber}
 use mathlib.Core.Path.{sym, _∙_}
 use borrow.Author.Tests.{le-ltb, lt-ltb}
@@ -18,7 +19,9 @@ follows-zero-requires c κs = search needs
 
 returns-3 : tie.Need-returns-3
 unfolding spoils nextNumber
-returns-3 c = rw (le-ltb _ _ (c .before .before .before .if1 .left), le-ltb _ _ (c .before .before .if2 .left), sym (c .before .follows-zero .ensures) ∙ c .if3 .taken)
+returns-3 c =
+    let high = c .before .before in
+    rw (le-ltb _ _ (high .before .if1 .left), le-ltb _ _ (high .if2 .left), sym (c .before .follows-zero .ensures) ∙ c .if3 .taken)
 
 mul-next : tie.Need-mul-next
 mul-next c = search needs
@@ -31,14 +34,20 @@ add-next c = search needs
 
 returns-4 : tie.Need-returns-4
 unfolding spoils nextNumber
-returns-4 c = rw (le-ltb _ _ (c .before .before .before .before .if1 .left), le-ltb _ _ (c .before .before .before .if2 .left), sym (c .before .before .follows-zero .ensures) ∙ c .before .if3 .left, lt-ltb _ _ (c .if4 .taken))
+returns-4 c =
+    let high = c .before .before .before in
+    let first = sym (c .before .before .follows-zero .ensures) ∙ c .before .if3 .left in
+    rw (le-ltb _ _ (high .before .if1 .left), le-ltb _ _ (high .if2 .left), first, lt-ltb _ _ (c .if4 .taken))
 
 cast-t11 : tie.Need-cast-t11
 cast-t11 c = search needs
 
 returns-5 : tie.Need-returns-5
 unfolding spoils nextNumber
-returns-5 c = rw (le-ltb _ _ (c .before .before .before .before .if1 .left), le-ltb _ _ (c .before .before .before .if2 .left), sym (c .before .before .follows-zero .ensures) ∙ c .before .if3 .left, le-ltb _ _ (c .if4 .left))
+returns-5 c =
+    let high = c .before .before .before in
+    let first = sym (c .before .before .follows-zero .ensures) ∙ c .before .if3 .left in
+    rw (le-ltb _ _ (high .before .if1 .left), le-ltb _ _ (high .if2 .left), first, le-ltb _ _ (c .if4 .left))
 
 pub next-number-spec : {M : Type 1} → statement M
 next-number-spec =
