@@ -5,5 +5,6 @@ pub mod Events
 pub mod Place
 pub mod Put
 pub mod PutAll
+pub mod Packet
 pub mod Unread
 pub mod Unknown

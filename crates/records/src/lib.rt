@@ -1,7 +1,9 @@
 // Event records in the event area: one put, one read, the two pointers, unread records and room.
 pub mod codes;
+mod packet;
 
 use geometry::Ring;
+pub use packet::put_events;
 ghost use mathlib.Core.Path.{_≡_};
 ghost use Prim.Native.Nat.{_+_, _≤_, _<_};
 ghost use lib.ListN.{length};
