@@ -12,7 +12,7 @@ use Rattle.geometry.specs.declared.Geometry.{Geometry}
 use Rattle.geometry.specs.declared.Ring.{Ring}
 use Rattle.geometry.specs.Geometry.{ringOf, recordPlace}
 use Rattle.records.specs.Ring.{readPointer, writePointer, withReadPointer, unreadCount}
-use Rattle.reading.specs.Reading.{isSized, readingRefusals}
+use Rattle.reading.specs.Reading.{isValidArea, readingRefusals}
 use Rattle.copy_out.specs.declared.Copied.{Copied}
 
 -- The first 8 bytes of the record at an index, which counts round the ring.
@@ -26,7 +26,7 @@ bytesFrom ring area index (suc count) = recordBytes ring area index ++ bytesFrom
 -- Refusals: 1, 10, 11.
 abbrev pub copyRefusals : Geometry → List ℕ → List (Bool × ℕ)
 copyRefusals geometry area =
-    (not (isSized geometry (length area)), invalid)
+    (not (isValidArea geometry (length area)), invalid)
     ∷ readingRefusals (ringOf geometry) (readPointer area) (writePointer area)
 
 abbrev pub copyAnswer : Geometry → List ℕ → ℕ

@@ -3,7 +3,7 @@ use answers::DONE;
 use answers::INVALID;
 use geometry::Geometry;
 use geometry::Ring;
-use reading::is_sized;
+use reading::is_valid_area;
 use reading::reading_refusal;
 ghost use mathlib.Core.Path.{_≡_};
 ghost use Prim.Native.Nat.{_+_, _*_, _%_, _≤_, _<_, min};
@@ -79,7 +79,7 @@ pub fn copy_out(geometry: Geometry, area: &mut [u8], limit: u32, out: &mut [u8])
         (r ≡ copy .copied) × ((now (area .exit) ≡ copy .area) × ((now (out .exit) ≡ copy .out)
         × (r .answer ≡ 0 → r .count ≡ unreadCount (ringOf geometry) (readPointer (now (area .entry))) (readPointer (now (area .exit))))))) ⌝ }
 {
-    if !is_sized(geometry, area.len()) {
+    if !is_valid_area(geometry, area.len()) {
         return refused(INVALID);
     }
     let ring = geometry::ring_of(geometry);

@@ -14,7 +14,7 @@ use Rattle.assembly.specs.declared.Driver.{Driver}
 use Rattle.assembly.specs.declared.Kind.{Kind}
 use Rattle.assembly.specs.declared.Kind.the-variants.{SynReport, SynDropped, DevSet, DevConf, DevReset, DevResetAll, BadDevSet, BadDev, Other}
 use Rattle.assembly.specs.Kind.{kindOf}
-use Rattle.driver.specs.Step.{isValid}
+use Rattle.driver.specs.Step.{isValidStep}
 
 -- A DEV record with a wrong value or code, and a report that ends a packet which was spoiled or had over 32 events.
 abbrev pub isMalformed : Kind → Driver → Bool
@@ -31,7 +31,7 @@ isMalformed Other driver = false
 -- The order of refusals: 1, 10, 11, then 9.
 abbrev pub stepRefusals : Geometry → Driver → List ℕ → List ℕ → List (Bool × ℕ)
 stepRefusals geometry driver area packet =
-    (not (isValid geometry driver (length area) (length packet)), invalid)
+    (not (isValidStep geometry driver (length area) (length packet)), invalid)
     ∷ (readingRefusals (ringOf geometry) (readPointer area) (writePointer area)
     ++ ((isMalformed (kindOf geometry (recordAt (ringOf geometry) area (readPointer area))) driver, malformed) ∷ []))
 

@@ -18,7 +18,7 @@ use Rattle.records.specs.Event.{mostEvents}
 use Rattle.assembly.specs.Kind.{isSlot}
 use Rattle.assembly.specs.Transition.{tells, receive}
 use Rattle.assembly.specs.Collect.{packetLength, collected}
-use Rattle.reading.specs.Reading.{isSized}
+use Rattle.reading.specs.Reading.{isValidArea}
 use Rattle.reading.specs.Oldest.{oldestOf}
 
 -- At most 32 events are held, and the slot is none, unknown or in range.
@@ -28,8 +28,8 @@ isDriver geometry driver =
     && (eqb (driver .slot) noSlot || (eqb (driver .slot) unknownSlot || isSlot geometry (driver .slot)))
 
 -- A step is refused with 1 for the geometry, a length that is lent or the driver's state.
-unfoldable pub isValid : Geometry → Driver → ℕ → ℕ → Bool
-isValid geometry driver areaSize packetSize = isSized geometry areaSize && (eqb packetSize packetLength && isDriver geometry driver)
+unfoldable pub isValidStep : Geometry → Driver → ℕ → ℕ → Bool
+isValidStep geometry driver areaSize packetSize = isValidArea geometry areaSize && (eqb packetSize packetLength && isDriver geometry driver)
 
 -- What a step leaves: what it tells with the driver's state, the event area, and the events that the driver holds.
 pub record StepResult : Type 0 where
@@ -52,6 +52,6 @@ stepOn geometry driver area packet (oldest.Refused number) = record {
 
 unfoldable pub stepOf : Geometry → Driver → List ℕ → List ℕ → StepResult
 stepOf geometry driver area packet =
-    cond (isValid geometry driver (length area) (length packet))
+    cond (isValidStep geometry driver (length area) (length packet))
     (stepOn geometry driver area packet (oldestOf (ringOf geometry) area))
     (stepOn geometry driver area packet (oldest.Refused invalid))

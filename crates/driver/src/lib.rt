@@ -7,7 +7,7 @@ use assembly::Told;
 use assembly::receive;
 use geometry::Geometry;
 use reading::Oldest;
-use reading::is_sized;
+use reading::is_valid_area;
 use reading::read_oldest;
 use reading::refusal_of;
 use records::MOST_EVENTS;
@@ -19,7 +19,7 @@ ghost use lib.ListN.{length};
 ghost use Rattle.geometry.specs.Geometry.{allowed};
 ghost use Rattle.assembly.specs.Transition.{answerOf};
 ghost use Rattle.driver.specs.Answer.{stepAnswer};
-ghost use Rattle.driver.specs.Step.{isDriver, isValid, stepOf};
+ghost use Rattle.driver.specs.Step.{isDriver, isValidStep, stepOf};
 
 fn is_driver(geometry: Geometry, driver: Driver) -> bool
     requires { ⌜ allowed geometry ≡ true ⌝ }
@@ -38,10 +38,10 @@ fn is_driver(geometry: Geometry, driver: Driver) -> bool
     geometry::is_slot(geometry, slot)
 }
 
-fn is_valid(geometry: Geometry, driver: Driver, area_size: usize, packet_size: usize) -> bool
-    ensures { λ r. ⌜ r ≡ isValid geometry driver «area_size» «packet_size» ⌝ }
+fn is_valid_step(geometry: Geometry, driver: Driver, area_size: usize, packet_size: usize) -> bool
+    ensures { λ r. ⌜ r ≡ isValidStep geometry driver «area_size» «packet_size» ⌝ }
 {
-    if !is_sized(geometry, area_size) {
+    if !is_valid_area(geometry, area_size) {
         return false;
     }
     if packet_size != PACKET_LENGTH {
@@ -56,7 +56,7 @@ pub fn step(geometry: Geometry, driver: Driver, area: &mut [u8], packet: &mut [u
         (r ≡ step .stepped) × ((now (area .exit) ≡ step .area) × ((now (packet .exit) ≡ step .packet)
         × (answerOf (r .told) ≡ stepAnswer geometry driver (now (area .entry)) (now (packet .entry)))))) ⌝ }
 {
-    if !is_valid(geometry, driver, area.len(), packet.len()) {
+    if !is_valid_step(geometry, driver, area.len(), packet.len()) {
         return Stepped {
             told: Told::Refused(INVALID),
             driver: driver,

@@ -10,8 +10,8 @@ use Rattle.geometry.specs.declared.Ring.{Ring}
 use Rattle.geometry.specs.Geometry.{allowed, areaLength}
 
 -- The geometry is allowed and the event area has its length; 1 otherwise.
-unfoldable pub isSized : Geometry → ℕ → Bool
-isSized geometry size = allowed geometry && eqb size (areaLength geometry)
+unfoldable pub isValidArea : Geometry → ℕ → Bool
+isValidArea geometry size = allowed geometry && eqb size (areaLength geometry)
 
 -- r or w at or above R is 10; r = w is 11.
 abbrev pub readingRefusals : Ring → ℕ → ℕ → List (Bool × ℕ)

@@ -9,7 +9,7 @@ ghost use mathlib.Core.Path.{_≡_};
 ghost use lib.ListN.{length};
 ghost use Rattle.records.specs.Ring.{Holds};
 ghost use Rattle.reading.specs.Oldest.{oldestOf, refusalOf};
-ghost use Rattle.reading.specs.Reading.{isSized, readingRefusal};
+ghost use Rattle.reading.specs.Reading.{isValidArea, readingRefusal};
 
 // The oldest unread record and its index, or why there is none.
 pub enum Oldest {
@@ -17,8 +17,8 @@ pub enum Oldest {
     Refused(u8),
 }
 
-pub fn is_sized(geometry: Geometry, size: usize) -> bool
-    ensures { λ r. ⌜ r ≡ isSized geometry size ⌝ }
+pub fn is_valid_area(geometry: Geometry, size: usize) -> bool
+    ensures { λ r. ⌜ r ≡ isValidArea geometry size ⌝ }
 {
     if !geometry::is_allowed(geometry) {
         return false;

@@ -14,7 +14,7 @@ use Rattle.geometry.specs.Geometry.{ringOf}
 use Rattle.records.specs.Ring.{readPointer, writePointer, withReadPointer, unreadCount}
 use Rattle.records.proofs.Laws.Index.{unread-unique, unread-below}
 use Rattle.records.proofs.Laws.Put.{moved-read-pointer}
-use Rattle.reading.specs.Reading.{isSized, readingRefusal}
+use Rattle.reading.specs.Reading.{isValidArea, readingRefusal}
 use Rattle.reading.proofs.Laws.Reading.{possible, sized-holds}
 use Rattle.copy_out.specs.declared.Copied.{Copied}
 use Rattle.copy_out.specs.CopyOut.{bytesFrom, copyAnswer, refusedCopy, copyOf}
@@ -36,12 +36,12 @@ module _ (geometry : Geometry) (area : List ℕ) (limit : ℕ) (out : List ℕ) 
       let answer : copied .answer ≡ number = ap (λ (c : Copied). c .answer) r in
       (r ∙ rw (← e, some), (rw (← e, some), (rw (← e, some), λ z. absurd (n (sym answer ∙ z)))))
 
-  pub copy-invalid : {copied : Copied} → isSized geometry (length area) ≡ false → copied ≡ refusedCopy 1
+  pub copy-invalid : {copied : Copied} → isValidArea geometry (length area) ≡ false → copied ≡ refusedCopy 1
       → Promise geometry area limit out copied area out
   unfolding firstRefusal
   copy-invalid h r = refused 1 (rw h) (λ e. omega arith) r
 
-  module _ (ok : isSized geometry (length area) ≡ true) {read write refusal : ℕ} (r : read ≡ readPointer area)
+  module _ (ok : isValidArea geometry (length area) ≡ true) {read write refusal : ℕ} (r : read ≡ readPointer area)
       (w : write ≡ writePointer area) (judged : refusal ≡ readingRefusal (ringOf geometry) read write) where
     same-answer : refusal ≡ copyAnswer geometry area
     unfolding firstRefusal readingRefusal

@@ -15,7 +15,7 @@ use Rattle.geometry.proofs.Laws.Allowed.{sizes}
 use Rattle.records.specs.Ring.{Holds, readPointer, writePointer}
 use Rattle.records.specs.Unread.{SameToDriver}
 use Rattle.records.proofs.Laws.Unknown.{same-read-pointer, same-write-pointer, same-bytes, same-moved}
-use Rattle.reading.specs.Reading.{isSized}
+use Rattle.reading.specs.Reading.{isValidArea}
 use Rattle.reading.proofs.Laws.Reading.{sized, sized-holds}
 use Rattle.copy_out.specs.CopyOut.{bytesFrom, copyAnswer, copyOf}
 
@@ -52,7 +52,7 @@ module _ (geometry : Geometry) (limit : ℕ) (out left right : List ℕ) (same :
       go : (test : Bool) → eqb (copyAnswer geometry left) 0 ≡ test → SameCopy
       go false h = rw (← same-refusal, h) (refl, refl, same)
       go true h =
-          let size = not-false (isSized geometry (length left)) (none-holds _ _ _ (omega arith) (eqb-true _ 0 h) .0) in
+          let size = not-false (isValidArea geometry (length left)) (none-holds _ _ _ (omega arith) (eqb-true _ 0 h) .0) in
           let holds = sized-holds geometry left size in
           let some = sizes geometry (sized geometry (length left) size .0) .ring-low in
           let bytes = same-copied (ringOf geometry) left right holds (omega (arith, some)) same in

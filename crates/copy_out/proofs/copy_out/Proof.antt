@@ -9,7 +9,7 @@ use borrow.Author.Tests.{not-true, not-false}
 use Rattle.geometry.specs.Geometry.{ringOf}
 use Rattle.records.specs.Ring.{Holds}
 use Rattle.records.proofs.Laws.Place.{pointers-inside}
-use Rattle.reading.specs.Reading.{isSized}
+use Rattle.reading.specs.Reading.{isValidArea}
 use Rattle.reading.proofs.Laws.Reading.{sized, sized-holds, Possible, possible}
 use Rattle.copy_out.proofs.Laws.CopyResult.{copy-invalid, copy-refused, copy-done}
 use borrow.Author.Needs.{needs}
@@ -17,8 +17,8 @@ use Rattle.copy_out.proofs.copy_out.Statement.{statement}
 use Rattle.copy_out.proofs.copy_out.Tie as tie
 
 -- the area of a call that goes on has its length, and so it holds the ring and the pointers
-known : (c : tie.Else1) → let a = c .before .before .before .before .args in isSized (a .geometry) (length (a .area .now)) ≡ true
-known c = sym (c .before .is-sized .ensures) ∙ not-false _ (c .if1 .left)
+known : (c : tie.Else1) → let a = c .before .before .before .before .args in isValidArea (a .geometry) (length (a .area .now)) ≡ true
+known c = sym (c .before .is-valid-area .ensures) ∙ not-false _ (c .if1 .left)
 
 holds : (c : tie.Else1) → let a = c .before .before .before .before .args in Holds (length (a .area .now)) (ringOf (a .geometry))
 holds c = let a = c .before .before .before .before .args in sized-holds (a .geometry) (a .area .now) (known c)
@@ -33,8 +33,8 @@ inside : (c : tie.Else2)
     (c .before .before .write-pointer .result)
 inside c = possible _ _ _ (sym (c .before .reading-refusal .ensures) ∙ c .if2 .left)
 
-is-sized-requires : tie.Need-is-sized-requires
-is-sized-requires c κs = search needs
+is-valid-area-requires : tie.Need-is-valid-area-requires
+is-valid-area-requires c κs = search needs
 
 refused-requires : tie.Need-refused-requires
 refused-requires c κs = search needs
@@ -43,7 +43,7 @@ returns : tie.Need-returns
 returns c =
     let a = c .before .before .before .before .before .args in
     copy-invalid (a .geometry) (a .area .now) (a .limit) (a .out .now)
-    (sym (c .before .before .is-sized .ensures) ∙ not-true _ (c .before .if1 .taken)) (c .refused .ensures)
+    (sym (c .before .before .is-valid-area .ensures) ∙ not-true _ (c .before .if1 .taken)) (c .refused .ensures)
 
 ring-of-requires : tie.Need-ring-of-requires
 ring-of-requires c κs = sized _ _ (known c) .0
@@ -133,7 +133,7 @@ pub copy-out-spec : {M : Type 1} → statement M
 copy-out-spec =
     tie.close
     (tie.spec
-    is-sized-requires
+    is-valid-area-requires
     refused-requires
     returns
     ring-of-requires

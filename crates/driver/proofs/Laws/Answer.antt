@@ -20,7 +20,7 @@ use Rattle.assembly.specs.Kind.{kindOf}
 use Rattle.assembly.specs.Transition.{answerOf, reported, received}
 use Rattle.reading.specs.Reading.{readingRefusal}
 use Rattle.reading.specs.Oldest.{oldestOf}
-use Rattle.driver.specs.Step.{isValid, stepOf}
+use Rattle.driver.specs.Step.{isValidStep, stepOf}
 use Rattle.driver.specs.Answer.{isMalformed, stepAnswer}
 use Rattle.driver.proofs.Laws.Step.{Leaves}
 
@@ -52,11 +52,11 @@ module _ (geometry : Geometry) (driver : Driver) (area packet : List ℕ) where
   step-answer : answerOf (stepOf geometry driver area packet .stepped .told) ≡ stepAnswer geometry driver area packet
   unfolding stepOf oldestOf readingRefusal firstRefusal
   step-answer =
-      go (isValid geometry driver (length area) (length packet))
+      go (isValidStep geometry driver (length area) (length packet))
       (leb (ringLength geometry) (readPointer area)) (leb (ringLength geometry) (writePointer area))
       (eqb (readPointer area) (writePointer area)) refl refl refl refl
     where
-      go : (a b c d : Bool) → isValid geometry driver (length area) (length packet) ≡ a
+      go : (a b c d : Bool) → isValidStep geometry driver (length area) (length packet) ≡ a
           → leb (ringLength geometry) (readPointer area) ≡ b → leb (ringLength geometry) (writePointer area) ≡ c
           → eqb (readPointer area) (writePointer area) ≡ d
           → answerOf (stepOf geometry driver area packet .stepped .told) ≡ stepAnswer geometry driver area packet

@@ -18,24 +18,24 @@ use Rattle.assembly.specs.declared.Told.the-variants as told
 use Rattle.reading.specs.declared.Oldest.the-variants as oldest
 use Rattle.assembly.specs.Transition.{tells, receive}
 use Rattle.assembly.specs.Collect.{packetLength, collected}
-use Rattle.reading.specs.Reading.{isSized}
+use Rattle.reading.specs.Reading.{isValidArea}
 use Rattle.reading.proofs.Laws.Reading.{sized}
 use Rattle.reading.specs.Oldest.{oldestOf}
-use Rattle.driver.specs.Step.{isDriver, isValid, stepOf}
+use Rattle.driver.specs.Step.{isDriver, isValidStep, stepOf}
 
 pub record Valid (geometry : Geometry) (driver : Driver) (areaSize packetSize : ℕ) : Type 0 where
   pub is-allowed : allowed geometry ≡ true
-  pub is-sized : areaSize ≡ areaLength geometry
+  pub area-size : areaSize ≡ areaLength geometry
   pub holds-packet : packetSize ≡ packetLength
 
-pub valid : (geometry : Geometry) (driver : Driver) (areaSize packetSize : ℕ) → isValid geometry driver areaSize packetSize ≡ true
+pub valid : (geometry : Geometry) (driver : Driver) (areaSize packetSize : ℕ) → isValidStep geometry driver areaSize packetSize ≡ true
     → Valid geometry driver areaSize packetSize
-unfolding isValid
+unfolding isValidStep
 valid geometry driver areaSize packetSize h =
-    let a = both (isSized geometry areaSize) _ h in
+    let a = both (isValidArea geometry areaSize) _ h in
     let b = both (eqb packetSize packetLength) (isDriver geometry driver) (a .1) in
     let s = sized geometry areaSize (a .0) in
-    record { is-allowed = s .0; is-sized = s .1; holds-packet = eqb-true packetSize packetLength (b .0) }
+    record { is-allowed = s .0; area-size = s .1; holds-packet = eqb-true packetSize packetLength (b .0) }
 
 -- What a step leaves is what the definition says.
 pub record Leaves (geometry : Geometry) (driver : Driver) (area packet : List ℕ) (result : Stepped) (area′ packet′ : List ℕ) : Type 0 where
@@ -45,24 +45,24 @@ pub record Leaves (geometry : Geometry) (driver : Driver) (area packet : List �
 
 module _ (geometry : Geometry) (driver : Driver) (area packet : List ℕ) where
   -- the area of a valid call holds the ring
-  pub valid-holds : isValid geometry driver (length area) (length packet) ≡ true → Holds (length area) (ringOf geometry)
+  pub valid-holds : isValidStep geometry driver (length area) (length packet) ≡ true → Holds (length area) (ringOf geometry)
   valid-holds h =
       let v = valid geometry driver (length area) (length packet) h in
-      rw (v .is-sized) (allowed-holds geometry (v .is-allowed))
+      rw (v .area-size) (allowed-holds geometry (v .is-allowed))
 
-  pub step-invalid : isValid geometry driver (length area) (length packet) ≡ false
+  pub step-invalid : isValidStep geometry driver (length area) (length packet) ≡ false
       → Leaves geometry driver area packet (tells (told.Refused 1) driver) area packet
   unfolding stepOf
   step-invalid h = record { told = rw h; area-left = rw h; packet-left = rw h }
 
-  pub step-refused : {number : ℕ} → isValid geometry driver (length area) (length packet) ≡ true
+  pub step-refused : {number : ℕ} → isValidStep geometry driver (length area) (length packet) ≡ true
       → oldestOf (ringOf geometry) area ≡ oldest.Refused number
       → Leaves geometry driver area packet (tells (told.Refused number) driver) area packet
   unfolding stepOf
   step-refused h e = record { told = rw (h, e); area-left = rw (h, e); packet-left = rw (h, e) }
 
   pub step-received : {index : ℕ} {event : Event} {area′ packet′ : List ℕ} {result : Stepped}
-      → isValid geometry driver (length area) (length packet) ≡ true
+      → isValidStep geometry driver (length area) (length packet) ≡ true
       → oldestOf (ringOf geometry) area ≡ oldest.Record index event → result ≡ receive geometry event driver
       → area′ ≡ withReadPointer area (nextIndex (ringOf geometry) index)
       → packet′ ≡ collected driver (receive geometry event driver .driver) event packet

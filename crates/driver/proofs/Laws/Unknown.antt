@@ -16,7 +16,7 @@ use Rattle.reading.specs.declared.Oldest.{Oldest}
 use Rattle.reading.specs.declared.Oldest.the-variants.{Record, Refused}
 use Rattle.reading.specs.Oldest.{oldestOf}
 use Rattle.reading.proofs.Laws.Oldest.{same-oldest}
-use Rattle.driver.specs.Step.{isValid, StepResult, stepOn, stepOf}
+use Rattle.driver.specs.Step.{isValidStep, StepResult, stepOn, stepOf}
 use Rattle.driver.proofs.Laws.Step.{valid, valid-holds}
 
 module _ (geometry : Geometry) (driver : Driver) (packet left right : List ℕ) (same : SameToDriver (ringOf geometry) left right) where
@@ -34,9 +34,9 @@ module _ (geometry : Geometry) (driver : Driver) (packet left right : List ℕ) 
       × (stepOf geometry driver left packet .packet ≡ stepOf geometry driver right packet .packet)
       × SameToDriver (ringOf geometry) (stepOf geometry driver left packet .area) (stepOf geometry driver right packet .area)
   unfolding stepOf Same
-  same-step = go (isValid geometry driver (length left) (length packet)) refl
+  same-step = go (isValidStep geometry driver (length left) (length packet)) refl
     where
-      go : (test : Bool) → isValid geometry driver (length left) (length packet) ≡ test
+      go : (test : Bool) → isValidStep geometry driver (length left) (length packet) ≡ test
           → Same (stepOf geometry driver left packet) (stepOf geometry driver right packet)
       go false h = rw (← same .same-length, h) (refl, refl, same)
       go true h =

@@ -8,7 +8,7 @@ use Rattle.geometry.specs.Geometry.{ringOf}
 use Rattle.records.specs.Ring.{Holds}
 use Rattle.records.proofs.Laws.Place.{pointers-inside}
 use Rattle.reading.specs.Oldest.{oldestOf}
-use Rattle.driver.specs.Step.{isValid}
+use Rattle.driver.specs.Step.{isValidStep}
 use Rattle.driver.proofs.Laws.Answer.{answered}
 use Rattle.reading.proofs.Laws.Oldest.{oldest-index}
 use Rattle.driver.proofs.Laws.Step.{valid, valid-holds, step-invalid, step-refused, step-received}
@@ -19,8 +19,8 @@ use Rattle.driver.proofs.step.Tie as tie
 -- what a valid call is known for
 known : (c : tie.Else1)
     → let a = c .before .before .before .before .args in
-    isValid (a .geometry) (a .driver) (length (a .area .now)) (length (a .packet .now)) ≡ true
-known c = sym (c .before .is-valid .ensures) ∙ not-false _ (c .if1 .left)
+    isValidStep (a .geometry) (a .driver) (length (a .area .now)) (length (a .packet .now)) ≡ true
+known c = sym (c .before .is-valid-step .ensures) ∙ not-false _ (c .if1 .left)
 
 holds : (c : tie.Else1) → let a = c .before .before .before .before .args in Holds (length (a .area .now)) (ringOf (a .geometry))
 holds c = let a = c .before .before .before .before .args in valid-holds (a .geometry) (a .driver) (a .area .now) (a .packet .now) (known c)
@@ -34,13 +34,13 @@ read c =
     let a = start .before .before .before .before .args in
     c .read-oldest .ensures ∙ ap (λ (ring : Ring). oldestOf ring (a .area .now)) (c .before .before .ring-of .ensures)
 
-is-valid-requires : tie.Need-is-valid-requires
-is-valid-requires c κs = search needs
+is-valid-step-requires : tie.Need-is-valid-step-requires
+is-valid-step-requires c κs = search needs
 
 returns : tie.Need-returns
 returns c =
     let a = c .before .before .before .before .args in
-    let wrong = sym (c .before .is-valid .ensures) ∙ not-true _ (c .if1 .taken) in
+    let wrong = sym (c .before .is-valid-step .ensures) ∙ not-true _ (c .if1 .taken) in
     answered (a .geometry) (a .driver) (a .area .now) (a .packet .now)
     (step-invalid (a .geometry) (a .driver) (a .area .now) (a .packet .now) wrong)
 
@@ -112,7 +112,7 @@ pub step-spec : {M : Type 1} → statement M
 step-spec =
     tie.close
     (tie.spec
-    is-valid-requires
+    is-valid-step-requires
     returns
     ring-of-requires
     read-oldest-requires

@@ -13,16 +13,16 @@ use Rattle.geometry.specs.Geometry.{allowed, areaLength, ringOf}
 use Rattle.geometry.proofs.Laws.Allowed.{both}
 use Rattle.records.specs.Ring.{Holds}
 use Rattle.records.proofs.Laws.Place.{allowed-holds}
-use Rattle.reading.specs.Reading.{isSized, readingRefusal}
+use Rattle.reading.specs.Reading.{isValidArea, readingRefusal}
 
-pub sized : (geometry : Geometry) (size : ℕ) → isSized geometry size ≡ true → (allowed geometry ≡ true) × (size ≡ areaLength geometry)
-unfolding isSized
+pub sized : (geometry : Geometry) (size : ℕ) → isValidArea geometry size ≡ true → (allowed geometry ≡ true) × (size ≡ areaLength geometry)
+unfolding isValidArea
 sized geometry size h =
     let a = both (allowed geometry) _ h in
     (a .0, eqb-true size (areaLength geometry) (a .1))
 
 -- an area of the right length holds the ring
-pub sized-holds : (geometry : Geometry) (area : List ℕ) → isSized geometry (length area) ≡ true → Holds (length area) (ringOf geometry)
+pub sized-holds : (geometry : Geometry) (area : List ℕ) → isValidArea geometry (length area) ≡ true → Holds (length area) (ringOf geometry)
 sized-holds geometry area h =
     let s = sized geometry (length area) h in
     rw (s .1) (allowed-holds geometry (s .0))
