@@ -65,15 +65,18 @@ struct thayarqo_geometry {
  * client_rev is 0 or 2, 2 if on, and 0 if never written; taken slots are in range; the current slot is none or taken.
  */
 struct thayarqo_device {
+    /* The registers. */
     bool on;
     bool interrupts;
     bool isr;
-    bool lost; /* a packet was refused with 10 or 7 since the last one accepted, or since the switch-on */
-    bool client_rev_written;
+    bool client_rev_written; /* while off */
     uint32_t client_rev;
+    /* The device's end of the ring, which a switch-on starts anew. */
     uint32_t write_index;
-    uint32_t current_slot; /* or THAYARQO_NO_SLOT */
-    uint64_t taken;        /* a bit a slot, slot 0 the lowest */
+    uint32_t current_slot; /* of the last packet accepted, or THAYARQO_NO_SLOT: after a switch-on, and a remove of that slot */
+    bool lost;             /* a packet was refused with 10 or 7 since the last one accepted, or since the switch-on */
+    /* The slots that devices were added to, a bit each, slot 0 the lowest. */
+    uint64_t taken;
 };
 
 /* A packet's events are lent as bytes, 8 for each as in a record: on a little-endian machine, an array of this struct. */

@@ -8,7 +8,7 @@ use Rattle.answers.specs.Refusals.{firstRefusal}
 use Rattle.geometry.specs.declared.Geometry.{Geometry}
 use Rattle.geometry.specs.Geometry.{barLength}
 use Rattle.device.specs.declared.Device.{Device}
-use Rattle.device.specs.Call.{isCall}
+use Rattle.device.specs.Call.{isValidCall}
 use Rattle.access.specs.Place.{placeOf, isReadOnly, isNothing}
 
 -- Accesses are 4 bytes wide, at a multiple of 4, within the BAR, and at a register; writes not at a read-only place.
@@ -24,4 +24,4 @@ accessRefusals valid geometry writes offset width =
 
 unfoldable pub accessAnswer : Geometry → Device → ℕ → ℕ → Bool → ℕ → ℕ → ℕ
 accessAnswer geometry device areaSize pageSize writes offset width =
-    firstRefusal (accessRefusals (isCall geometry device areaSize pageSize) geometry writes offset width)
+    firstRefusal (accessRefusals (isValidCall geometry device areaSize pageSize) geometry writes offset width)

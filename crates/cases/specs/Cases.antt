@@ -9,8 +9,8 @@ use Rattle.geometry.specs.Geometry.{ringLength, ringOf, recordPlace, slotCount,
 use Rattle.records.specs.Ring.{unreadCount, hasRoom}
 use Rattle.entries.specs.Offer.{isOffered}
 use Rattle.device.specs.declared.Device.{Device}
-use Rattle.packets.specs.Rule.{PacketResult, packetAnswer, packetOf}
-use Rattle.switch_on.specs.SwitchOn.{WriteResult}
+use Rattle.device.specs.Result.{Result}
+use Rattle.packets.specs.Rule.{packetAnswer, packetOf}
 use Rattle.registers.specs.Write.{writeOf}
 use Rattle.kbdif_page.specs.Page.{eventPlace}
 use Rattle.cases.specs.Setting.{sizes, fine, coarse, page, off, on, area, motions, absolute}
@@ -28,16 +28,16 @@ abbrev number : Bool → ℕ
 number test = cond test 1 0
 
 -- CONTROL's bit 0 is written; then a packet of two events, then one of one event.
-abbrev switched : WriteResult
+abbrev switched : Result
 switched = writeOf fine off (area 7 7) (length page) 0x100 4 1
 
-abbrev then : Device → List ℕ → ℕ → PacketResult
+abbrev then : Device → List ℕ → ℕ → Result
 then device before count = packetOf fine device before page 4 (motions count)
 
-abbrev first : PacketResult
+abbrev first : Result
 first = then (switched .outcome .device) (switched .area) 2
 
-abbrev second : PacketResult
+abbrev second : Result
 second = then (first .outcome .device) (first .area) 1
 
 abbrev pub cases : List Case
@@ -51,9 +51,9 @@ cases =
     ∷ case "S = 72: slots" (slotCount (sizes 1 8 72)) 56
     ∷ case "S = 68: slot 59 begins at" (entryPlace fine 59) 4012
     ∷ case "slot 4 taken, switch-on: answer" (switched .outcome .answer) 0
-    ∷ case "slot 4 taken, switch-on: w" (switched .outcome .device .«write_index») 2
-    ∷ case "a packet of two events for it: w" (first .outcome .device .«write_index») 6
-    ∷ case "a further one of one event: w" (second .outcome .device .«write_index») 8
+    ∷ case "slot 4 taken, switch-on: w" (switched .outcome .device .producer .«write_index») 2
+    ∷ case "a packet of two events for it: w" (first .outcome .device .producer .«write_index») 6
+    ∷ case "a further one of one event: w" (second .outcome .device .producer .«write_index») 8
     ∷ case "R = 63: from 0 to 60 are unread" (unreadCount (ringOf coarse) 0 60) 60
     ∷ case "R = 63, unread 60, slot current, no lost mark: one event" (packetAnswer coarse (on 60) (area 0 60) page 4 (motions 1)) 0
     ∷ case "R = 63, unread 60, slot current, no lost mark: two events" (packetAnswer coarse (on 60) (area 0 60) page 4 (motions 2)) 7

@@ -9,10 +9,10 @@ use Rattle.records.specs.Event.{eventBytes}
 use Rattle.records.specs.Codes.{EV-REL}
 use Rattle.records.specs.Ring.{withReadPointer, withWritePointer}
 use Rattle.device.specs.declared.Device.{Device}
+use Rattle.device.specs.Setters.{withClientRev}
 use Rattle.device.specs.State.{freshDevice}
-use Rattle.hotplug_add.specs.Add.{afterAdd}
+use Rattle.hotplug.specs.Add.{afterAdd}
 use Rattle.packets.specs.Rule.{afterPacket}
-use Rattle.registers.specs.Write.{withClientRev}
 use Rattle.switch_on.specs.SwitchOn.{switchedOn}
 
 abbrev pub sizes : ℕ → ℕ → ℕ → Geometry
@@ -31,7 +31,7 @@ page = setU32 (replicate 4096 0) 312 5
 
 -- It was added to a fresh device, and CLIENT_REV written.
 abbrev pub off : Device
-off = withClientRev 2 (afterAdd 4 0 freshDevice)
+off = withClientRev 2 (afterAdd fine 4 freshDevice)
 
 -- It is on, slot 4 is current, and so many records have been put.
 abbrev pub on : ℕ → Device

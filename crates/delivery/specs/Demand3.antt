@@ -24,9 +24,9 @@ use Rattle.geometry.specs.Geometry.{allowed, ringOf}
 use Rattle.records.specs.Unread.{SameToDriver}
 use Rattle.entries.specs.Lookup.{lookupAnswer, lookupPart, SameEntries}
 use Rattle.assembly.specs.declared.Driver.{Driver}
-use Rattle.driver.specs.Step.{isValid, stepOf}
+use Rattle.driver.specs.Step.{isValidStep, stepOf}
 use Rattle.copy_out.specs.CopyOut.{copyOf}
-use Rattle.device.specs.Call.{isCall}
+use Rattle.device.specs.Call.{isValidCall}
 use Rattle.delivery.specs.World.{World, Call, write, call}
 use Rattle.delivery.specs.Log.{Entry, logOf, after, receivedLog, sentLog, numberIn, endsWithNothingToRead}
 use Rattle.delivery.specs.Pending.{pendingIn}
@@ -39,8 +39,8 @@ pub record Delivered (geometry : Geometry) (world : World) (log : List Entry) : 
 
 -- No state or geometry is refused.
 pub record StateHolds (geometry : Geometry) (world : World) : Type 0 where
-  pub device-holds : isCall geometry (world .device) (length (world .area)) (length (world .page)) ≡ true
-  pub driver-holds : isValid geometry (world .collector .driver) (length (world .area)) (length (world .collector .packet)) ≡ true
+  pub device-holds : isValidCall geometry (world .device) (length (world .area)) (length (world .page)) ≡ true
+  pub driver-holds : isValidStep geometry (world .collector .driver) (length (world .area)) (length (world .collector .packet)) ≡ true
 
 abbrev pub NoBadIndex : List Entry → Type 0
 NoBadIndex [] = Unit {0}
@@ -55,8 +55,8 @@ pub record AfterList (geometry : Geometry) (start : World) (calls : List Call) :
 abbrev pub Delivery : Type 0
 Delivery =
     (geometry : Geometry) → allowed geometry ≡ true
-    → (world : World) → IsFresh (world .collector) → world .device .on ≡ false
-    → (offset width value : ℕ) → call geometry world (write offset width value) .world .device .on ≡ true
+    → (world : World) → IsFresh (world .collector) → world .device .registers .on ≡ false
+    → (offset width value : ℕ) → call geometry world (write offset width value) .world .device .registers .on ≡ true
     → (calls : List Call) → AllBelong geometry (call geometry world (write offset width value) .world) calls
     → AfterList geometry (call geometry world (write offset width value) .world) calls
 

@@ -10,7 +10,7 @@ use Rattle.records.specs.Event.{eventsFrom}
 use Rattle.assembly.specs.declared.Told.{Told}
 use Rattle.assembly.specs.declared.Told.the-variants as told
 use Rattle.assembly.specs.Transition.{answerOf}
-use Rattle.packet_records.specs.Packet.{eventsOf}
+use Rattle.records.specs.Packet.{eventsOf}
 use Rattle.delivery.specs.World.{World, Call, read, write, add, remove, packet, step, Answer, numbered, valued, stepped, call}
 
 -- A call with what it answered.

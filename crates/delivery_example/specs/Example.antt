@@ -96,8 +96,8 @@ items =
 pub record Example : Type 0 where
   pub is-allowed : allowed small ≡ true
   pub is-fresh : IsFresh (before .collector)
-  pub is-off : before .device .on ≡ false
-  pub is-on : start .device .on ≡ true
+  pub is-off : before .device .registers .on ≡ false
+  pub is-on : start .device .registers .on ≡ true
   pub all-belong : AllBelong small start calls
   pub after-list : AfterList small start calls
   pub is-answered : map (λ (entry : Entry). numberIn (entry .answered)) (logOf small start (accesses ++ refusals)) ≡ answers

@@ -1,1 +1,3 @@
+pub mod Rules
 pub mod Call
+pub mod Room

@@ -1,3 +1,5 @@
+pub mod Setters
 pub mod State
 pub mod Call
 pub mod Room
+pub mod Result

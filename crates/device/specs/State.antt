@@ -6,45 +6,63 @@ use Rattle.bits.specs.Bits.{bit}
 use Rattle.geometry.specs.declared.Geometry.{Geometry}
 use Rattle.geometry.specs.Geometry.{ringLength, slotCount}
 use Rattle.records.specs.Codes.{noSlot}
+use Rattle.device.specs.declared.Registers.{Registers}
+use Rattle.device.specs.declared.Producer.{Producer}
 use Rattle.device.specs.declared.Device.{Device}
 
--- A device that was never written to: off, no slot taken, CLIENT_REV 0.
-abbrev pub freshDevice : Device
-freshDevice = record {
+-- ---- a fresh device
+
+-- Off, no interrupts, CLIENT_REV 0 and never written.
+abbrev pub freshRegisters : Registers
+freshRegisters = record {
   on = false;
   interrupts = false;
   isr = false;
-  lost = false;
   «client_rev_written» = false;
   «client_rev» = 0;
-  «write_index» = 0;
-  «current_slot» = noSlot;
-  taken = 0;
 }
 
+-- The start of the ring: no slot is current and the lost mark is clear.
+abbrev pub freshProducer : Producer
+freshProducer = record { «write_index» = 0; «current_slot» = noSlot; lost = false }
+
+-- A device that was never written to: no slot is taken.
+abbrev pub freshDevice : Device
+freshDevice = record { registers = freshRegisters; producer = freshProducer; taken = 0 }
+
+-- ---- what is asked of a state
+
 -- Taken slots are a mask, slot 0 its lowest bit.
-abbrev pub isTaken : Device → ℕ → Bool
-isTaken device slot = bit (device .taken) slot
+abbrev pub isTaken : ℕ → ℕ → Bool
+isTaken taken slot = bit taken slot
+
+-- The device can be switched on: CLIENT_REV is 2.
+abbrev pub mayRun : Registers → Bool
+mayRun registers = eqb (registers .«client_rev») 2
+
+-- ---- the rules
 
 -- The private write index is below R.
-abbrev pub writeIndexRule : Geometry → Device → Bool
-writeIndexRule geometry device = ltb (device .«write_index») (ringLength geometry)
+abbrev pub writeIndexRule : Geometry → ℕ → Bool
+writeIndexRule geometry index = ltb index (ringLength geometry)
 
 -- CLIENT_REV is 0 or 2, 2 if on, and 0 if never written.
-unfoldable pub clientRevRule : Device → Bool
-clientRevRule device =
-    (eqb (device .«client_rev») 0 || eqb (device .«client_rev») 2)
-    && ((not (device .on) || eqb (device .«client_rev») 2)
-    && (device .«client_rev_written» || eqb (device .«client_rev») 0))
+unfoldable pub clientRevRule : Registers → Bool
+clientRevRule registers =
+    (eqb (registers .«client_rev») 0 || eqb (registers .«client_rev») 2)
+    && ((not (registers .on) || mayRun registers)
+    && (registers .«client_rev_written» || eqb (registers .«client_rev») 0))
 
 -- Taken slots are in range.
-abbrev pub takenRule : Geometry → Device → Bool
-takenRule geometry device = ltb (device .taken) (2 ^ slotCount geometry)
+abbrev pub takenRule : Geometry → ℕ → Bool
+takenRule geometry taken = ltb taken (2 ^ slotCount geometry)
 
 -- The current slot is none or taken.
-unfoldable pub currentRule : Device → Bool
-currentRule device = eqb (device .«current_slot») noSlot || isTaken device (device .«current_slot»)
+unfoldable pub currentRule : ℕ → ℕ → Bool
+currentRule taken slot = eqb slot noSlot || isTaken taken slot
 
 unfoldable pub isDevice : Geometry → Device → Bool
 isDevice geometry device =
-    writeIndexRule geometry device && (takenRule geometry device && (clientRevRule device && currentRule device))
+    writeIndexRule geometry (device .producer .«write_index»)
+    && (takenRule geometry (device .taken)
+    && (clientRevRule (device .registers) && currentRule (device .taken) (device .producer .«current_slot»)))

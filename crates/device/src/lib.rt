@@ -1,34 +1,52 @@
 // The device's state, and the rules that every state passed in must keep.
+mod state;
+
 use answers::BAD_INDEX;
 use answers::DONE;
 use answers::NO_ROOM;
 use geometry::Geometry;
 use geometry::Ring;
-use records::codes::NO_SLOT;
+pub use state::fresh;
+pub use state::fresh_producer;
+pub use state::is_taken;
+pub use state::keeps_rules;
+pub use state::may_run;
 ghost use mathlib.Core.Path.{_≡_};
-ghost use mathlib.Core.Bool.{_&&_};
 ghost use Prim.Native.Nat.{_<_};
 ghost use lib.ListN.{length};
-ghost use Rattle.device.specs.State.{freshDevice, isTaken, clientRevRule, currentRule};
 ghost use Rattle.records.specs.Ring.{Holds};
-ghost use Rattle.device.specs.Call.{isSized, isFitting, isCall};
+ghost use Rattle.device.specs.Call.{isValidPages, isValidBounds, isValidCall};
 ghost use Rattle.device.specs.Room.{roomRefusal};
 
-// Taken slots are a mask, slot 0 its lowest bit, so that a call's cost doesn't grow with the slots.
+// The registers that keep what is written to them.
 #[repr(C)]
-pub struct Device {
+pub struct Registers {
+    // CONTROL, bit 0.
     pub on: bool,
+    // CONTROL, bit 1.
     pub interrupts: bool,
     pub isr: bool,
-    // The lost mark: a packet was refused since the last one that was put.
-    pub lost: bool,
     // CLIENT_REV was written while off.
     pub client_rev_written: bool,
     pub client_rev: u32,
+}
+
+// The device's end of the ring. A switch-on starts it anew.
+#[repr(C)]
+pub struct Producer {
     // The private write index. WRITE_PTR in the area is a copy for the guest.
     pub write_index: u32,
-    // The slot of the packet that was put last.
+    // The slot of the last packet; none after a switch-on, and after a remove of that slot.
     pub current_slot: u32,
+    // The lost mark: since the last packet that was put one was refused with 10 or 7.
+    pub lost: bool,
+}
+
+#[repr(C)]
+pub struct Device {
+    pub registers: Registers,
+    pub producer: Producer,
+    // The taken slots as a mask, slot 0 its lowest bit, so that a call's cost doesn't grow with the slots.
     pub taken: u64,
 }
 
@@ -39,60 +57,8 @@ pub struct Outcome {
     pub device: Device,
 }
 
-pub fn fresh() -> Device
-    ensures { λ r. ⌜ r ≡ freshDevice ⌝ }
-{
-    Device {
-        on: false,
-        interrupts: false,
-        isr: false,
-        lost: false,
-        client_rev_written: false,
-        client_rev: 0,
-        write_index: 0,
-        current_slot: NO_SLOT,
-        taken: 0,
-    }
-}
-
-pub fn is_taken(device: Device, slot: u32) -> bool
-    ensures { λ r. ⌜ r ≡ isTaken device slot ⌝ }
-{
-    bits::is_set(device.taken, slot)
-}
-
-fn keeps_client_rev_rule(device: Device) -> bool
-    ensures { λ r. ⌜ r ≡ clientRevRule device ⌝ }
-{
-    let client_rev = device.client_rev;
-    match client_rev {
-        0 => !device.on,
-        2 => device.client_rev_written,
-        _ => false,
-    }
-}
-
-fn keeps_current_rule(device: Device) -> bool
-    ensures { λ r. ⌜ r ≡ currentRule device ⌝ }
-{
-    if device.current_slot == NO_SLOT {
-        return true;
-    }
-    is_taken(device, device.current_slot)
-}
-
-// The rules of the state that no size decides.
-pub fn keeps_rules(device: Device) -> bool
-    ensures { λ r. ⌜ r ≡ (clientRevRule device && currentRule device) ⌝ }
-{
-    if !keeps_client_rev_rule(device) {
-        return false;
-    }
-    keeps_current_rule(device)
-}
-
-fn is_sized(geometry: Geometry, area_size: usize, page_size: usize) -> bool
-    ensures { λ r. ⌜ r ≡ isSized geometry «area_size» «page_size» ⌝ }
+fn is_valid_pages(geometry: Geometry, area_size: usize, page_size: usize) -> bool
+    ensures { λ r. ⌜ r ≡ isValidPages geometry «area_size» «page_size» ⌝ }
 {
     if !geometry::is_allowed(geometry) {
         return false;
@@ -104,16 +70,16 @@ fn is_sized(geometry: Geometry, area_size: usize, page_size: usize) -> bool
 }
 
 // All that the geometry bounds. It takes numbers alone, so that the state isn't copied for it.
-pub fn is_fitting(
+pub fn is_valid_bounds(
     geometry: Geometry,
     area_size: usize,
     page_size: usize,
     write_index: u32,
     taken: u64,
 ) -> bool
-    ensures { λ r. ⌜ r ≡ isFitting geometry «area_size» «page_size» «write_index» taken ⌝ }
+    ensures { λ r. ⌜ r ≡ isValidBounds geometry «area_size» «page_size» «write_index» taken ⌝ }
 {
-    if !is_sized(geometry, area_size, page_size) {
+    if !is_valid_pages(geometry, area_size, page_size) {
         return false;
     }
     let ring = geometry::ring_of(geometry);
@@ -124,12 +90,12 @@ pub fn is_fitting(
 }
 
 // Whether a call's geometry, lent lengths and state are right.
-pub fn is_call(geometry: Geometry, device: Device, area_size: usize, page_size: usize) -> bool
-    ensures { λ r. ⌜ r ≡ isCall geometry device «area_size» «page_size» ⌝ }
+pub fn is_valid_call(geometry: Geometry, device: Device, area_size: usize, page_size: usize) -> bool
+    ensures { λ r. ⌜ r ≡ isValidCall geometry device «area_size» «page_size» ⌝ }
 {
-    let index = device.write_index;
+    let index = device.producer.write_index;
     let taken = device.taken;
-    if !is_fitting(geometry, area_size, page_size, index, taken) {
+    if !is_valid_bounds(geometry, area_size, page_size, index, taken) {
         return false;
     }
     keeps_rules(device)
@@ -140,6 +106,9 @@ pub fn room_refusal(ring: Ring, area: &[u8], index: u32, count: u32) -> u8
     requires { ⌜ (Holds (length (now area)) ring) × (index < ring .length) ⌝ }
     ensures { λ r. ⌜ r ≡ roomRefusal ring (now (area .entry)) index count ⌝ }
 {
+    if count == 0 {
+        return DONE;
+    }
     let read = records::read_pointer(area);
     if read >= ring.length {
         return BAD_INDEX;

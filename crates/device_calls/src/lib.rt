@@ -5,8 +5,8 @@ use geometry::Geometry;
 ghost use mathlib.Core.Path.{_≡_};
 ghost use Rattle.device.specs.State.{freshDevice};
 ghost use Rattle.packets.specs.Rule.{packetOf};
-ghost use Rattle.hotplug_add.specs.Add.{addOf};
-ghost use Rattle.hotplug_remove.specs.Remove.{removeOf};
+ghost use Rattle.hotplug.specs.Add.{addOf};
+ghost use Rattle.hotplug.specs.Remove.{removeOf};
 
 #[no_mangle]
 pub extern "C" fn thayarqo_fresh_device() -> Device
@@ -44,7 +44,7 @@ pub extern "C" fn thayarqo_add(
     ensures { λ r. ⌜ (let added = addOf geometry (now (device .entry)) (now (area .entry)) (now (page .entry)) slot (now (entry .entry)) in
         (r ≡ added .outcome .answer) × (now (device .exit) ≡ added .outcome .device) × (now (area .exit) ≡ added .area) × (now (page .exit) ≡ added .page)) ⌝ }
 {
-    let out = hotplug_add::add_rule(*device, geometry, area, page, slot, entry);
+    let out = hotplug::add_rule(*device, geometry, area, page, slot, entry);
     *device = out.device;
     out.answer
 }
@@ -60,7 +60,7 @@ pub extern "C" fn thayarqo_remove(
     ensures { λ r. ⌜ (let removed = removeOf geometry (now (device .entry)) (now (area .entry)) (now (page .entry)) slot in
         (r ≡ removed .outcome .answer) × (now (device .exit) ≡ removed .outcome .device) × (now (area .exit) ≡ removed .area) × (now (page .exit) ≡ removed .page)) ⌝ }
 {
-    let out = hotplug_remove::remove_rule(*device, geometry, area, page, slot);
+    let out = hotplug::remove_rule(*device, geometry, area, page, slot);
     *device = out.device;
     out.answer
 }

@@ -1,5 +1,4 @@
-// The records of a packet, put one after the other.
-use device::Device;
+// The records of a packet: how many there are, and put one after the other.
 use geometry::Ring;
 use records::codes::DEV_SET;
 use records::codes::SYN_DROPPED;
@@ -9,9 +8,11 @@ use records::codes::syn_record;
 ghost use mathlib.Core.Path.{_≡_};
 ghost use Prim.Native.Nat.{_≤_, _<_};
 ghost use lib.ListN.{length};
+ghost use Rattle.records.specs.Event.{mostEvents};
+ghost use Rattle.records.specs.Packet.{eventCount, eventsOf};
 ghost use Rattle.records.specs.Ring.{Holds};
 ghost use Rattle.records.specs.Put.{Put};
-ghost use Rattle.packet_records.specs.Packet.{eventCount, eventsOf, lostRecords, setRecords, packetRecords};
+ghost use Rattle.packet_records.specs.Packet.{lostRecords, setRecords, recordsFor};
 
 fn lost_count(lost: bool) -> u32
     ensures { λ r. ⌜ (r ≡ length (lostRecords lost)) × (r ≤ 2) ⌝ }
@@ -31,12 +32,12 @@ fn set_count(current: u32, slot: u32) -> u32
     1
 }
 
-pub fn record_count(device: Device, slot: u32, packet: &[u8]) -> u32
-    requires { ⌜ eventCount (now packet) ≤ 32 ⌝ }
-    ensures { λ r. ⌜ r ≡ length (packetRecords device slot (now (packet .entry))) ⌝ }
+pub fn record_count(lost: bool, current: u32, slot: u32, packet: &[u8]) -> u32
+    requires { ⌜ eventCount (now packet) ≤ mostEvents ⌝ }
+    ensures { λ r. ⌜ r ≡ length (recordsFor lost current slot (eventsOf (now (packet .entry)))) ⌝ }
 {
     let count = (packet.len() / 8) as u32;
-    lost_count(device.lost) + set_count(device.current_slot, slot) + count + 1
+    lost_count(lost) + set_count(current, slot) + count + 1
 }
 
 fn put_lost(ring: Ring, area: &mut [u8], index: u32, lost: bool) -> u32
@@ -60,26 +61,22 @@ fn put_set(ring: Ring, area: &mut [u8], index: u32, current: u32, slot: u32) -> 
     records::put_record(ring, area, index, dev_record(DEV_SET, slot))
 }
 
-fn put_events(ring: Ring, area: &mut [u8], index: u32, packet: &[u8]) -> u32
+// Answers the index of the next record.
+pub fn put_packet(
+    ring: Ring,
+    area: &mut [u8],
+    index: u32,
+    lost: bool,
+    current: u32,
+    slot: u32,
+    packet: &[u8],
+) -> u32
     requires { ⌜ (Holds (length (now area)) ring) × (index < ring .length) ⌝ }
-    ensures { λ r. ⌜ Put ring index (eventsOf (now (packet .entry))) (now (area .entry)) (now (area .exit)) r ⌝ }
+    ensures { λ r. ⌜ (let put = recordsFor lost current slot (eventsOf (now (packet .entry))) in
+        Put ring index put (now (area .entry)) (now (area .exit)) r) ⌝ }
 {
-    let count = packet.len() / 8;
-    let mut at = index;
-    let mut i: usize = 0;
-    while i < count {
-        at = records::put_record(ring, area, at, records::decode(packet, i * 8));
-        i += 1;
-    }
-    at
-}
-
-pub fn put_packet(ring: Ring, area: &mut [u8], device: Device, slot: u32, packet: &[u8]) -> u32
-    requires { ⌜ (Holds (length (now area)) ring) × (device .«write_index» < ring .length) ⌝ }
-    ensures { λ r. ⌜ Put ring (device .«write_index») (packetRecords device slot (now (packet .entry))) (now (area .entry)) (now (area .exit)) r ⌝ }
-{
-    let set = put_lost(ring, area, device.write_index, device.lost);
-    let first = put_set(ring, area, set, device.current_slot, slot);
-    let report = put_events(ring, area, first, packet);
+    let set = put_lost(ring, area, index, lost);
+    let first = put_set(ring, area, set, current, slot);
+    let report = records::put_events(ring, area, first, packet);
     records::put_record(ring, area, report, syn_record(SYN_REPORT))
 }

@@ -9,16 +9,19 @@ use answers::NO_ROOM;
 use answers::NOT_OFFERED;
 use device::Device;
 use device::Outcome;
+use device::Registers;
 use geometry::Geometry;
 use packet_records::put_packet;
 use packet_records::record_count;
+use records::MOST_EVENTS;
 ghost use mathlib.Core.Path.{_≡_};
-ghost use mathlib.Core.Bool.{_||_, _&&_};
+ghost use mathlib.Core.Bool.{true, _||_};
 ghost use lib.ListN.{length};
-ghost use Rattle.device.specs.Call.{isCall};
-ghost use Rattle.packet_records.specs.Packet.{eventsOf};
-ghost use Rattle.packets.specs.Packet.{isWhole, allOffered};
-ghost use Rattle.packets.specs.Rule.{packetAnswer, lostOutcome, afterPacket, packetOf};
+ghost use Rattle.records.specs.Packet.{eventsOf};
+ghost use Rattle.device.specs.Setters.{withLost};
+ghost use Rattle.device.specs.Result.{outcomeOf};
+ghost use Rattle.packets.specs.Packet.{allOffered};
+ghost use Rattle.packets.specs.Rule.{isValidPacketCall, packetAnswer, afterPacket, packetOf};
 
 fn offers_all(entry: &[u8], packet: &[u8]) -> bool
     requires { ⌜ length (now entry) ≡ 68 ⌝ }
@@ -36,18 +39,18 @@ fn offers_all(entry: &[u8], packet: &[u8]) -> bool
 }
 
 // It tests the state's numbers apart from the rest, so that the state isn't copied for a call.
-fn is_whole_call(
+fn is_valid_packet_call(
     geometry: Geometry,
     device: Device,
     area_size: usize,
     page_size: usize,
     packet_size: usize,
 ) -> bool
-    ensures { λ r. ⌜ r ≡ (isCall geometry device «area_size» «page_size» && isWhole «packet_size») ⌝ }
+    ensures { λ r. ⌜ r ≡ isValidPacketCall geometry device «area_size» «page_size» «packet_size» ⌝ }
 {
-    let index = device.write_index;
+    let index = device.producer.write_index;
     let taken = device.taken;
-    if !device::is_fitting(geometry, area_size, page_size, index, taken) {
+    if !device::is_valid_bounds(geometry, area_size, page_size, index, taken) {
         return false;
     }
     if !device::keeps_rules(device) {
@@ -66,64 +69,69 @@ fn packet_refusal(
 ) -> u8
     ensures { λ r. ⌜ r ≡ packetAnswer geometry device (now (area .entry)) (now (page .entry)) slot (now (packet .entry)) ⌝ }
 {
-    if !is_whole_call(geometry, device, area.len(), page.len(), packet.len()) {
+    if !is_valid_packet_call(geometry, device, area.len(), page.len(), packet.len()) {
         return INVALID;
     }
-    if !device.on {
+    if !device.registers.on {
         return DEVICE_OFF;
     }
-    if !device::is_taken(device, slot) {
+    if !device::is_taken(device.taken, slot) {
         return BAD_SLOT;
     }
     let count = packet.len() / 8;
     if count < 1 {
         return MALFORMED;
     }
-    if count > 32 {
+    if count > MOST_EVENTS as usize {
         return MALFORMED;
     }
     let start = geometry::entry_place(geometry, slot);
     if !offers_all(&page[start..start + entries::KNOWN_LENGTH], packet) {
         return NOT_OFFERED;
     }
-    let needed = record_count(device, slot, packet);
-    device::room_refusal(
-        geometry::ring_of(geometry),
-        area,
-        device.write_index,
-        needed,
-    )
+    let lost = device.producer.lost;
+    let current = device.producer.current_slot;
+    let needed = record_count(lost, current, slot, packet);
+    let index = device.producer.write_index;
+    device::room_refusal(geometry::ring_of(geometry), area, index, needed)
 }
 
-fn lost(answer: u8, device: Device) -> Outcome
-    ensures { λ r. ⌜ r ≡ lostOutcome answer device ⌝ }
+fn lose(device: Device) -> Device
+    ensures { λ r. ⌜ r ≡ withLost true device ⌝ }
 {
     let mut after = device;
-    after.lost = true;
-    Outcome {
-        answer: answer,
-        device: after,
-    }
+    after.producer.lost = true;
+    after
 }
 
-fn raises(device: Device) -> bool
-    ensures { λ r. ⌜ r ≡ (device .isr || device .interrupts) ⌝ }
+fn raises(registers: Registers) -> bool
+    ensures { λ r. ⌜ r ≡ (registers .isr || registers .interrupts) ⌝ }
 {
-    if device.isr {
+    if registers.isr {
         return true;
     }
-    device.interrupts
+    registers.interrupts
 }
 
 fn accept(device: Device, slot: u32, index: u32) -> Device
     ensures { λ r. ⌜ r ≡ afterPacket slot index device ⌝ }
 {
+    let isr = raises(device.registers);
     let mut after = device;
-    after.isr = raises(device);
-    after.lost = false;
-    after.write_index = index;
-    after.current_slot = slot;
+    after.registers.isr = isr;
+    after.producer.write_index = index;
+    after.producer.current_slot = slot;
+    after.producer.lost = false;
     after
+}
+
+fn answered(answer: u8, device: Device) -> Outcome
+    ensures { λ r. ⌜ r ≡ outcomeOf answer device ⌝ }
+{
+    Outcome {
+        answer: answer,
+        device: device,
+    }
 }
 
 // Refuses in order, tests the room for all records, then puts them. The events are lent as bytes, so that none is copied before it is put.
@@ -141,20 +149,14 @@ pub fn packet_rule(
     let refusal = packet_refusal(geometry, device, &area[..], page, slot, packet);
     match refusal {
         DONE => {}
-        BAD_INDEX => return lost(refusal, device),
-        NO_ROOM => return lost(refusal, device),
-        _ => {
-            return Outcome {
-                answer: refusal,
-                device: device,
-            };
-        }
+        BAD_INDEX => return answered(refusal, lose(device)),
+        NO_ROOM => return answered(refusal, lose(device)),
+        _ => return answered(refusal, device),
     }
     let ring = geometry::ring_of(geometry);
-    let index = put_packet(ring, area, device, slot, packet);
-    let after = accept(device, slot, index);
-    Outcome {
-        answer: DONE,
-        device: after,
-    }
+    let index = device.producer.write_index;
+    let lost = device.producer.lost;
+    let current = device.producer.current_slot;
+    let next = put_packet(ring, area, index, lost, current, slot, packet);
+    answered(DONE, accept(device, slot, next))
 }

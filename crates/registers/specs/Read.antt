@@ -20,14 +20,14 @@ use Rattle.access.specs.Access.{accessAnswer}
 -- The words of the event area and of the entry page read as the bytes there.
 abbrev pub valueOf : Geometry → Device → List ℕ → List ℕ → ℕ → Place → ℕ
 valueOf geometry device area page offset Magic = 0x584D4F55
-valueOf geometry device area page offset Rev = cond (device .«client_rev_written») 2 1
-valueOf geometry device area page offset Control = bitOf (device .on) + 2 * bitOf (device .interrupts)
+valueOf geometry device area page offset Rev = cond (device .registers .«client_rev_written») 2 1
+valueOf geometry device area page offset Control = bitOf (device .registers .on) + 2 * bitOf (device .registers .interrupts)
 valueOf geometry device area page offset EventSize = geometry .«record_size»
 valueOf geometry device area page offset Npages = geometry .pages
 valueOf geometry device area page offset Acceleration = 0
-valueOf geometry device area page offset Isr = bitOf (device .isr)
+valueOf geometry device area page offset Isr = bitOf (device .registers .isr)
 valueOf geometry device area page offset ConfSize = geometry .«entry_size»
-valueOf geometry device area page offset ClientRev = device .«client_rev»
+valueOf geometry device area page offset ClientRev = device .registers .«client_rev»
 valueOf geometry device area page offset ReadPtr = u32At area 0
 valueOf geometry device area page offset EventArea = u32At area (offset - 0x1000)
 valueOf geometry device area page offset EntryPage = u32At page (offset - (0x1000 + areaLength geometry))

@@ -40,14 +40,14 @@ fn value_at(geometry: Geometry, device: Device, area: &[u8], page: &[u8], offset
     let place = place_of(geometry, offset);
     match place {
         Place::Magic => MAGIC,
-        Place::Rev => revision(device.client_rev_written),
-        Place::Control => control(device.on, device.interrupts),
+        Place::Rev => revision(device.registers.client_rev_written),
+        Place::Control => control(device.registers.on, device.registers.interrupts),
         Place::EventSize => geometry.record_size,
         Place::Npages => geometry.pages,
         Place::Acceleration => 0,
-        Place::Isr => bits::bit_of(device.isr),
+        Place::Isr => bits::bit_of(device.registers.isr),
         Place::ConfSize => geometry.entry_size,
-        Place::ClientRev => device.client_rev,
+        Place::ClientRev => device.registers.client_rev,
         Place::ReadPtr => words::read_u32(area, 0),
         Place::EventArea => words::read_u32(area, (offset - AREA_OFFSET) as usize),
         Place::EntryPage => {
@@ -69,7 +69,7 @@ pub fn read_rule(
 ) -> Value
     ensures { λ r. ⌜ r ≡ readOf geometry device (now (area .entry)) (now (page .entry)) offset width ⌝ }
 {
-    let valid = device::is_call(geometry, device, area.len(), page.len());
+    let valid = device::is_valid_call(geometry, device, area.len(), page.len());
     let refusal = access_refusal(valid, geometry, false, offset, width);
     if refusal != DONE {
         return Value {

@@ -7,14 +7,16 @@ use device::Device;
 use device::Outcome;
 use geometry::Geometry;
 ghost use mathlib.Core.Path.{_≡_};
-ghost use mathlib.Core.Bool.{true};
+ghost use mathlib.Core.Bool.{true, false};
 ghost use lib.ListN.{length};
 ghost use Rattle.geometry.specs.Geometry.{allowed, ringOf};
 ghost use Rattle.records.specs.Ring.{Holds};
-ghost use Rattle.registers.specs.Write.{withControl, withIsrCleared, doneWith, controlOf, clientRevOf, effectOf, writeOf};
+ghost use Rattle.device.specs.Setters.{withControl, withIsr};
+ghost use Rattle.device.specs.Result.{outcomeOf};
+ghost use Rattle.registers.specs.Write.{controlOf, clientRevFor, clientRevOf, effectOf, writeOf};
 
 fn done(device: Device) -> Outcome
-    ensures { λ r. ⌜ r ≡ doneWith device ⌝ }
+    ensures { λ r. ⌜ r ≡ outcomeOf 0 device ⌝ }
 {
     Outcome {
         answer: DONE,
@@ -23,11 +25,11 @@ fn done(device: Device) -> Outcome
 }
 
 fn hold_control(device: Device, on: bool, interrupts: bool) -> Outcome
-    ensures { λ r. ⌜ r ≡ doneWith (withControl on interrupts device) ⌝ }
+    ensures { λ r. ⌜ r ≡ outcomeOf 0 (withControl on interrupts device) ⌝ }
 {
     let mut after = device;
-    after.on = on;
-    after.interrupts = interrupts;
+    after.registers.on = on;
+    after.registers.interrupts = interrupts;
     done(after)
 }
 
@@ -40,36 +42,42 @@ fn write_control(geometry: Geometry, device: Device, area: &mut [u8], value: u32
     if !bits::is_set(value as u64, 0) {
         return hold_control(device, false, interrupts);
     }
-    if device.client_rev != 2 {
+    if !device::may_run(device.registers) {
         return hold_control(device, false, interrupts);
     }
-    if device.on {
+    if device.registers.on {
         return hold_control(device, true, interrupts);
     }
     switch_on::start(geometry, device, area, interrupts)
 }
 
 fn write_isr(device: Device) -> Outcome
-    ensures { λ r. ⌜ r ≡ doneWith (withIsrCleared device) ⌝ }
+    ensures { λ r. ⌜ r ≡ outcomeOf 0 (withIsr false device) ⌝ }
 {
     let mut after = device;
-    after.isr = false;
+    after.registers.isr = false;
     done(after)
 }
 
-fn write_client_rev(device: Device, value: u32) -> Outcome
-    ensures { λ r. ⌜ r ≡ doneWith (clientRevOf device value) ⌝ }
+fn client_rev_for(value: u32) -> u32
+    ensures { λ r. ⌜ r ≡ clientRevFor value ⌝ }
 {
-    if device.on {
+    if value == 2 {
+        return 2;
+    }
+    0
+}
+
+fn write_client_rev(device: Device, value: u32) -> Outcome
+    ensures { λ r. ⌜ r ≡ outcomeOf 0 (clientRevOf device value) ⌝ }
+{
+    if device.registers.on {
         return done(device);
     }
+    let client_rev = client_rev_for(value);
     let mut after = device;
-    after.client_rev_written = true;
-    after.client_rev = 0;
-    if value == 2 {
-        after.client_rev = 2;
-        return done(after);
-    }
+    after.registers.client_rev_written = true;
+    after.registers.client_rev = client_rev;
     done(after)
 }
 
@@ -109,7 +117,7 @@ pub fn write_rule(
     ensures { λ r. ⌜ (let written = writeOf geometry device (now (area .entry)) (length (now (page .entry))) offset width value in
         (r ≡ written .outcome) × (now (area .exit) ≡ written .area)) ⌝ }
 {
-    let valid = device::is_call(geometry, device, area.len(), page.len());
+    let valid = device::is_valid_call(geometry, device, area.len(), page.len());
     let refusal = access_refusal(valid, geometry, true, offset, width);
     if refusal != DONE {
         return Outcome {

@@ -69,7 +69,7 @@ fn plug(device: Device, area: &mut [u8], page: &mut [u8], slot: u32, masks: [u32
     words::write_u32(&mut entry, 44, masks[1]);
     words::write_u32(&mut entry, 48, masks[2]);
     words::write_u32(&mut entry, 64, masks[3]);
-    let out = hotplug_add::add_rule(device, sizes(), area, page, slot, &entry);
+    let out = hotplug::add_rule(device, sizes(), area, page, slot, &entry);
     expect_done(b"add", out.answer);
     out.device
 }
@@ -243,7 +243,7 @@ fn main() {
     device = set(device, &mut area, &page, 0x100, 3);
     device = send_all(device, &mut area, &page, &mut packet);
     print(b"records\n");
-    print_records(&area, device.write_index);
+    print_records(&area, device.producer.write_index);
     print(b"received\n");
     receive_all(&mut area, &mut packet);
 }

@@ -1,7 +1,7 @@
 -- Switch-on (01): both pointers become 0, the current slot none, the lost mark clear; then DEV_RESET 0xFFFF and a DEV_CONF for each
 -- taken slot, rising. If these don't fit the answer is 7.
 use Prim.Native.Nat.{ℕ, zero, suc, _-_}
-use mathlib.Core.Bool.{Bool, true, false, cond}
+use mathlib.Core.Bool.{Bool, true, cond}
 use mathlib.Core.List.{List, [], _∷_, map}
 use lib.Dec.{leb}
 use lib.ListN.{length}
@@ -10,11 +10,13 @@ use Rattle.bits.specs.Bits.{bit}
 use Rattle.geometry.specs.declared.Geometry.{Geometry}
 use Rattle.geometry.specs.Geometry.{ringLength, ringOf, slotCount}
 use Rattle.records.specs.declared.Event.{Event}
-use Rattle.records.specs.Codes.{DEV-CONF, DEV-RESET, allSlots, noSlot, devRecord}
+use Rattle.records.specs.Codes.{DEV-CONF, DEV-RESET, allSlots, devRecord}
 use Rattle.records.specs.Ring.{withReadPointer, withWritePointer}
 use Rattle.records.specs.Put.{putRecords, indexAfter}
 use Rattle.device.specs.declared.Device.{Device}
-use Rattle.device.specs.declared.Outcome.{Outcome}
+use Rattle.device.specs.Setters.{withProducer, withControl, withWriteIndex}
+use Rattle.device.specs.State.{freshProducer}
+use Rattle.device.specs.Result.{Result, resultOf}
 
 -- The taken ones of so many slots from a slot on, rising.
 unfoldable pub takenFrom : ℕ → ℕ → ℕ → List ℕ
@@ -31,36 +33,19 @@ startRecords geometry device = devRecord DEV-RESET allSlots ∷ map (devRecord D
 abbrev pub clearedPointers : List ℕ → List ℕ
 clearedPointers area = withWritePointer (withReadPointer area 0) 0
 
+-- On, with the ring's end started anew and moved past these records. ISR stays.
 abbrev pub switchedOn : Bool → ℕ → Device → Device
-switchedOn interrupts index device = record {
-  on = true;
-  interrupts = interrupts;
-  isr = device .isr;
-  lost = false;
-  «client_rev_written» = device .«client_rev_written»;
-  «client_rev» = device .«client_rev»;
-  «write_index» = index;
-  «current_slot» = noSlot;
-  taken = device .taken;
-}
-
--- What a write leaves: its answer with the state, and the event area.
-pub record WriteResult : Type 0 where
-  pub outcome : Outcome
-  pub area : List ℕ
+switchedOn interrupts index device = withWriteIndex index (withProducer freshProducer (withControl true interrupts device))
 
 -- What it leaves where its records fit.
-abbrev pub started : Geometry → Device → List ℕ → Bool → WriteResult
-started geometry device area interrupts = record {
-  outcome = record {
-    answer = done;
-    device = switchedOn interrupts (indexAfter (ringOf geometry) 0 (startRecords geometry device)) device;
-  };
-  area = putRecords (ringOf geometry) 0 (startRecords geometry device) (clearedPointers area);
-}
+abbrev pub started : Geometry → Device → List ℕ → Bool → Result
+started geometry device area interrupts =
+    let records = startRecords geometry device in
+    resultOf done (switchedOn interrupts (indexAfter (ringOf geometry) 0 records) device)
+    (putRecords (ringOf geometry) 0 records (clearedPointers area))
 
-unfoldable pub switchOn : Geometry → Device → List ℕ → Bool → WriteResult
+unfoldable pub switchOn : Geometry → Device → List ℕ → Bool → Result
 switchOn geometry device area interrupts =
     cond (leb (length (startRecords geometry device)) (ringLength geometry - 1))
     (started geometry device area interrupts)
-    (record { outcome = record { answer = noRoom; device = device }; area = area })
+    (resultOf noRoom device area)

@@ -8,7 +8,6 @@ use geometry::Ring;
 use records::codes::ALL_SLOTS;
 use records::codes::DEV_CONF;
 use records::codes::DEV_RESET;
-use records::codes::NO_SLOT;
 use records::codes::dev_record;
 ghost use mathlib.Core.Path.{_≡_};
 ghost use mathlib.Core.Bool.{true, cond};
@@ -39,7 +38,7 @@ fn clear_pointers(area: &mut [u8])
     ensures { λ _. ⌜ now (area .exit) ≡ clearedPointers (now (area .entry)) ⌝ }
 {
     records::set_read_pointer(area, 0);
-    words::write_u32(area, 4, 0);
+    records::set_write_pointer(area, 0);
 }
 
 fn put_slot(ring: Ring, area: &mut [u8], index: u32, taken: u64, slot: u32) -> u32
@@ -76,12 +75,12 @@ fn put_start(ring: Ring, area: &mut [u8], taken: u64, slots: u32) -> u32
 fn switched(device: Device, interrupts: bool, index: u32) -> Device
     ensures { λ r. ⌜ r ≡ switchedOn interrupts index device ⌝ }
 {
+    let producer = device::fresh_producer();
     let mut after = device;
-    after.on = true;
-    after.interrupts = interrupts;
-    after.lost = false;
-    after.write_index = index;
-    after.current_slot = NO_SLOT;
+    after.registers.on = true;
+    after.registers.interrupts = interrupts;
+    after.producer = producer;
+    after.producer.write_index = index;
     after
 }
 

@@ -49,11 +49,11 @@ pub struct Device {
     pub on: bool,
     pub interrupts: bool,
     pub isr: bool,
-    pub lost: bool,
     pub client_rev_written: bool,
     pub client_rev: u32,
     pub write_index: u32,
     pub current_slot: u32,
+    pub lost: bool,
     pub taken: u64,
 }
 

@@ -10,7 +10,7 @@ use Rattle.geometry.specs.declared.Geometry.{Geometry}
 use Rattle.geometry.specs.Geometry.{areaLength, barLength, ringOf}
 use Rattle.records.proofs.Laws.Place.{pointers-inside}
 use Rattle.device.specs.declared.Device.{Device}
-use Rattle.device.specs.Call.{isCall}
+use Rattle.device.specs.Call.{isValidCall}
 use Rattle.device.proofs.Laws.Call.{Call, call}
 use Rattle.access.specs.declared.Place.the-variants.{EventArea, EntryPage}
 use Rattle.access.specs.Place.{placeOf}
@@ -19,7 +19,7 @@ use Rattle.access.proofs.Laws.Place.{area-begins, area-ends, page-begin
 
 -- what an access is judged by
 pub judged : (geometry : Geometry) (device : Device) (areaSize pageSize : ℕ) (writes : Bool) (offset width : ℕ) {called : Bool} {answer : ℕ}
-    → answer ≡ firstRefusal (accessRefusals called geometry writes offset width) → called ≡ isCall geometry device areaSize pageSize
+    → answer ≡ firstRefusal (accessRefusals called geometry writes offset width) → called ≡ isValidCall geometry device areaSize pageSize
     → answer ≡ accessAnswer geometry device areaSize pageSize writes offset width
 unfolding accessAnswer
 judged geometry device areaSize pageSize writes offset width first called =

@@ -9,7 +9,7 @@ use Rattle.records.specs.Ring.{putRecord}
 use Rattle.records.specs.Put.{putRecords, indexAfter}
 use Rattle.entries.specs.Offer.{offersCode, isOffered}
 use Rattle.device.specs.State.{clientRevRule, currentRule, isDevice}
-use Rattle.device.specs.Call.{isSized, isCall}
+use Rattle.device.specs.Call.{isValidPages, isValidCall}
 use Rattle.packets.specs.Packet.{allOffered}
 use Rattle.packets.specs.Rule.{packetAnswer, packetOf}
 use Rattle.access.specs.Access.{accessAnswer}
@@ -19,5 +19,5 @@ use Rattle.registers.specs.Write.{controlOf, writeOf}
 use Rattle.cases.specs.Cases.{Cases}
 
 pub all-right : Cases
-unfolding firstRefusal overwrite bit isRecordSize isEntrySize allowed eventBytes eventAt eventsFrom putRecord putRecords indexAfter offersCode isOffered clientRevRule currentRule isDevice isSized isCall allOffered packetAnswer packetOf accessAnswer placeIn placeOf takenFrom switchOn controlOf writeOf
+unfolding firstRefusal overwrite bit isRecordSize isEntrySize allowed eventBytes eventAt eventsFrom putRecord putRecords indexAfter offersCode isOffered clientRevRule currentRule isDevice isValidPages isValidCall allOffered packetAnswer packetOf accessAnswer placeIn placeOf takenFrom switchOn controlOf writeOf
 all-right = (refl, (refl, (refl, (refl, (refl, (refl, (refl, (refl, (refl, (refl, (refl, (refl, (refl, (refl, (refl, (refl, (refl, (refl, (refl, (refl, (refl, tt)))))))))))))))))))))

@@ -21,10 +21,13 @@ use Rattle.device.specs.declared.Device.{Device}
 use Rattle.access.specs.declared.Place.{Place}
 use Rattle.access.specs.declared.Place.the-variants as place
 use Rattle.access.specs.Place.{placeOf}
-use Rattle.device.specs.Call.{isCall}
+use Rattle.device.specs.State.{mayRun}
+use Rattle.device.specs.Call.{isValidCall}
+use Rattle.device.specs.Result.{Result, resultOf}
+use Rattle.device.specs.declared.Producer.{Producer}
+use Rattle.device.proofs.Laws.Call.{call-with}
 use Rattle.access.specs.Access.{accessRefusals, accessAnswer}
 use Rattle.registers.specs.Read.{readOf}
-use Rattle.switch_on.specs.SwitchOn.{WriteResult}
 use Rattle.registers.specs.Write.{controlOf, clientRevOf, effectOf, writeOf}
 use Rattle.registers.proofs.Laws.Keeps.{write-keeps, write-size}
 use Rattle.pending.proofs.Laws.Pending.{pending-same}
@@ -32,7 +35,6 @@ use Rattle.delivery.specs.World.{World, read, write, call}
 use Rattle.delivery.specs.Log.{Item}
 use Rattle.delivery.specs.Pending.{driverReader}
 use Rattle.delivery.specs.Premises.{StaysOn}
-use Rattle.delivery.proofs.Laws.State.{called-with, call-device}
 use Rattle.delivery.proofs.Laws.Invariant.{Invariant, Kept, Quiet, known, quiet-kept}
 
 -- no access is answered with 10
@@ -40,7 +42,7 @@ access-not-ten : (geometry : Geometry) (device : Device) (areaSize pageSize : �
     → accessAnswer geometry device areaSize pageSize writes offset width ≡ 10 → ⊥
 unfolding accessAnswer
 access-not-ten geometry device areaSize pageSize writes offset width =
-    never-answers 10 (accessRefusals (isCall geometry device areaSize pageSize) geometry writes offset width) refl
+    never-answers 10 (accessRefusals (isValidCall geometry device areaSize pageSize) geometry writes offset width) refl
 
 -- ---- reads
 
@@ -65,34 +67,26 @@ module _ (geometry : Geometry) (world : World) {pending : List Item} (h : Invari
 -- ---- writes while on
 
 -- What a write leaves as it was, while on.
-record Untouched (geometry : Geometry) (device : Device) (area : List ℕ) (result : WriteResult) : Type 0 where
-  same-index : result .outcome .device .«write_index» ≡ device .«write_index»
-  same-current : result .outcome .device .«current_slot» ≡ device .«current_slot»
-  same-lost : result .outcome .device .lost ≡ device .lost
+record Untouched (geometry : Geometry) (device : Device) (area : List ℕ) (result : Result) : Type 0 where
+  same-producer : result .outcome .device .producer ≡ device .producer
   same-write : writePointer (result .area) ≡ writePointer area
   same-records : (index count : ℕ)
       → recordsFrom (ringOf geometry) (result .area) index count ≡ recordsFrom (ringOf geometry) area index count
   not-ten : result .outcome .answer ≡ 10 → ⊥
 
--- A write that answers a number, and leaves a state and an area.
-abbrev answers : ℕ → Device → List ℕ → WriteResult
-answers number device area = record { outcome = record { answer = number; device = device }; area = area }
-
-module _ (geometry : Geometry) (device : Device) (area : List ℕ) (on : device .on ≡ true) where
-  untouched : {answer : ℕ} → (answer ≡ 10 → ⊥) → Untouched geometry device area (answers answer device area)
+module _ (geometry : Geometry) (device : Device) (area : List ℕ) (on : device .registers .on ≡ true) where
+  untouched : {answer : ℕ} → (answer ≡ 10 → ⊥) → Untouched geometry device area (resultOf answer device area)
   untouched n = record {
-    same-index = refl;
-    same-current = refl;
-    same-lost = refl;
+    same-producer = refl;
     same-write = refl;
     same-records = λ index count. refl;
     not-ten = n;
   }
 
-  same : Untouched geometry device area (answers 0 device area)
+  same : Untouched geometry device area (resultOf 0 device area)
   same = untouched (λ e. omega arith)
 
-  never-again : (wanted two : Bool) → (wanted && (two && not (device .on))) ≡ false
+  never-again : (wanted two : Bool) → (wanted && (two && not (device .registers .on))) ≡ false
   never-again true true = rw on
   never-again true false = refl
   never-again false two = refl
@@ -100,19 +94,17 @@ module _ (geometry : Geometry) (device : Device) (area : List ℕ) (on : device 
   control-untouched : (value : ℕ) → Untouched geometry device area (controlOf geometry device area value)
   unfolding controlOf
   control-untouched value =
-      rw (never-again (bit value 0) (eqb (device .«client_rev») 2)) (record {
-        same-index = refl;
-        same-current = refl;
-        same-lost = refl;
+      rw (never-again (bit value 0) (mayRun (device .registers))) (record {
+        same-producer = refl;
         same-write = refl;
         same-records = λ index count. refl;
         not-ten = λ e. omega arith;
       })
 
-  client-rev-untouched : (value : ℕ) → Untouched geometry device area (answers 0 (clientRevOf device value) area)
+  client-rev-untouched : (value : ℕ) → Untouched geometry device area (resultOf 0 (clientRevOf device value) area)
   unfolding clientRevOf
   client-rev-untouched value =
-      either (λ (after : Device). Untouched geometry device area (answers 0 after area)) (device .on)
+      either (λ (after : Device). Untouched geometry device area (resultOf 0 after area)) (device .registers .on)
       (λ still. same) (λ off. absurd (false≢true (sym off ∙ on)))
 
   effect-untouched : Holds (length area) (ringOf geometry) → (value : ℕ) (at : Place)
@@ -124,9 +116,7 @@ module _ (geometry : Geometry) (device : Device) (area : List ℕ) (on : device 
   effect-untouched holds value place.Npages = same
   effect-untouched holds value place.Acceleration = same
   effect-untouched holds value place.Isr = record {
-    same-index = refl;
-    same-current = refl;
-    same-lost = refl;
+    same-producer = refl;
     same-write = refl;
     same-records = λ index count. refl;
     not-ten = λ e. omega arith;
@@ -134,9 +124,7 @@ module _ (geometry : Geometry) (device : Device) (area : List ℕ) (on : device 
   effect-untouched holds value place.ConfSize = same
   effect-untouched holds value place.ClientRev = client-rev-untouched value
   effect-untouched holds value place.ReadPtr = record {
-    same-index = refl;
-    same-current = refl;
-    same-lost = refl;
+    same-producer = refl;
     same-write = moved-write-pointer (ringOf geometry) area holds value;
     same-records = λ index count. moved-keeps (ringOf geometry) area holds value index count;
     not-ten = λ e. omega arith;
@@ -166,14 +154,16 @@ module _ (geometry : Geometry) (world : World) {pending : List Item} (h : Invari
       let pageSize = length (world .page) in
       let c = known h in
       let left = write-untouched geometry device area (h .on) (c .holds) pageSize offset width value in
-      let before = call-device geometry device (length area) pageSize (h .called) in
-      let rules = write-keeps geometry device before area pageSize offset width value in
-      quiet-kept write-quiet refl (ap (λ (lost : Bool). record { refused = lost }) (left .same-lost)) (left .not-ten)
+      let keeps = write-keeps geometry device (c .keeps) area pageSize offset width value in
+      quiet-kept write-quiet refl (ap (λ (producer : Producer). record { refused = producer .lost }) (left .same-producer)) (left .not-ten)
       (record {
-        called = rw (write-size geometry device area pageSize offset width value) (called-with geometry _ c rules);
+        called = rw (write-size geometry device area pageSize offset width value) (call-with geometry _ c keeps);
         on = stays .on;
         packet-size = h .packet-size;
         is-driver = h .is-driver;
-        ahead = rw (left .same-index, left .same-current)
+        ahead = rw (
+          ap (λ (producer : Producer). producer .«write_index») (left .same-producer),
+          ap (λ (producer : Producer). producer .«current_slot») (left .same-producer),
+        )
             (pending-same (driverReader geometry) (h .ahead) (stays .same-read-pointer) (left .same-write) (left .same-records));
       })

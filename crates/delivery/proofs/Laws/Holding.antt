@@ -23,7 +23,7 @@ use Rattle.assembly.specs.Transition.{withOneMore, spoiled, joined, reported, w
 use Rattle.assembly.specs.Collect.{packetLength, collected, Collector, eventsHeld, collect}
 use Rattle.assembly.proofs.Laws.Held.{moved-held, without-held}
 use Rattle.assembly.proofs.Laws.Collect.{none-joined, joined-length, joined-events}
-use Rattle.hotplug_remove.specs.Remove.{currentWithout}
+use Rattle.hotplug.specs.Remove.{currentWithout}
 use Rattle.delivery.specs.Log.{Item, gap, whole, toldBy}
 use Rattle.delivery.specs.Pending.{give}
 

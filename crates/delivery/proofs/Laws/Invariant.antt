@@ -14,7 +14,7 @@ use Rattle.records.proofs.Laws.PutAll.{puts-length}
 use Rattle.assembly.specs.Collect.{packetLength, Collector}
 use Rattle.driver.specs.Step.{isDriver}
 use Rattle.device.specs.declared.Device.{Device}
-use Rattle.device.specs.Call.{isCall}
+use Rattle.device.specs.Call.{isValidCall}
 use Rattle.device.proofs.Laws.Call.{Call, call}
 use Rattle.pending.proofs.Laws.Pending.{Pending, pending-put}
 use Rattle.delivery.specs.World.{World, Result}
@@ -25,19 +25,19 @@ use Rattle.delivery.proofs.Laws.Holding.{Holding}
 use Rattle.delivery.proofs.Laws.Runs.{Runs}
 
 abbrev pub writeIndex : World → ℕ
-writeIndex world = world .device .«write_index»
+writeIndex world = world .device .producer .«write_index»
 
 abbrev pub currentSlot : World → ℕ
-currentSlot world = world .device .«current_slot»
+currentSlot world = world .device .producer .«current_slot»
 
 -- A call of the device is let through with 0, and its state keeps its rules.
 abbrev pub IsCalled : Geometry → World → Type 0
-IsCalled geometry world = isCall geometry (world .device) (length (world .area)) (length (world .page)) ≡ true
+IsCalled geometry world = isValidCall geometry (world .device) (length (world .area)) (length (world .page)) ≡ true
 
 -- The unread records will give the driver what is pending, and leave it at the device's current slot with nothing begun.
 pub record Invariant (geometry : Geometry) (world : World) (pending : List Item) : Type 0 where
   pub called : IsCalled geometry world
-  pub on : world .device .on ≡ true
+  pub on : world .device .registers .on ≡ true
   pub packet-size : length (world .collector .packet) ≡ packetLength
   pub is-driver : isDriver geometry (world .collector .driver) ≡ true
   pub ahead : Pending (driverReader geometry) (ringOf geometry) (world .area) (writeIndex world) (world .collector) pending
@@ -49,7 +49,7 @@ known {geometry} {world} h = call geometry (world .device) (length (world .area)
 
 -- What the device's state says of the sender.
 abbrev pub senderOf : Device → Sender
-senderOf device = record { refused = device .lost }
+senderOf device = record { refused = device .producer .lost }
 
 -- A call keeps it, and its log is right.
 pub record Kept (geometry : Geometry) (before : World) (pending : List Item) (next : world.Call) (result : Result) : Type 0 where
@@ -89,9 +89,9 @@ module _ (geometry : Geometry) where
       → (records : List Event) (more : List Item) (device : Device) (page : List ℕ) → AllFit records
       → hasRoom (ringOf geometry) (readPointer (world .area)) (writeIndex world) (length records) ≡ true
       → ((collector : Collector) → Holding (currentSlot world) [] collector
-      → Runs geometry collector records more (device .«current_slot») [])
-      → device .«write_index» ≡ indexAfter (ringOf geometry) (writeIndex world) records
-      → device .on ≡ true → isCall geometry device (length (world .area)) (length page) ≡ true
+      → Runs geometry collector records more (device .producer .«current_slot») [])
+      → device .producer .«write_index» ≡ indexAfter (ringOf geometry) (writeIndex world) records
+      → device .registers .on ≡ true → isValidCall geometry device (length (world .area)) (length page) ≡ true
       → Invariant geometry (leftBy world device (putRecords (ringOf geometry) (writeIndex world) records (world .area)) page)
       (pending ++ more)
   appended {world} h records more device page fits room runs index on called =

@@ -1,7 +1,7 @@
 -- A packet keeps the invariant: accepted, its records are put and are pending; refused for room, the sender remembers it.
 use Prim.Native.Nat.{ℕ, _^_, _<_}
 use mathlib.Core.Path.{_≡_, refl, sym}
-use mathlib.Core.Bool.{false≢true}
+use mathlib.Core.Bool.{true, false≢true}
 use mathlib.Core.Logic.{_≢_}
 use mathlib.Core.List.{List, [], _∷_, _++_, append-nil}
 use native.Mathlib.Omega.{arith}
@@ -15,20 +15,23 @@ use Rattle.geometry.proofs.Laws.Allowed.{sizes}
 use Rattle.geometry.proofs.Laws.Slots.{few-slots}
 use Rattle.words.specs.Words.{IsBytes}
 use Rattle.records.specs.declared.Event.{Event}
+use Rattle.records.specs.Packet.{eventCount, eventsOf}
 use Rattle.records.specs.Ring.{readPointer}
 use Rattle.records.specs.Put.{putRecords, indexAfter}
 use Rattle.records.proofs.Laws.Events.{events-length, events-fit}
 use Rattle.records.proofs.Laws.PutAll.{after-inside}
 use Rattle.entries.specs.Entry.{entryAt}
 use Rattle.device.specs.declared.Device.{Device}
-use Rattle.device.proofs.Laws.Call.{taken-slot}
-use Rattle.packet_records.specs.Packet.{eventCount, eventsOf, packetRecords}
-use Rattle.packets.specs.Rule.{packetRefusals, packetAnswer, withLost, afterPacket, packetOf}
+use Rattle.device.specs.Setters.{withLost}
+use Rattle.device.proofs.Laws.Rules.{rules-lost, taken-slot}
+use Rattle.device.proofs.Laws.Call.{call-with}
+use Rattle.packet_records.proofs.Laws.Put.{records-some}
+use Rattle.packets.specs.Rule.{packetRecords, packetRefusals, packetAnswer, afterPacket, packetOf}
 use Rattle.packets.proofs.Laws.Rule.{accepted}
+use Rattle.packets.proofs.Laws.Keeps.{packet-keeps}
 use Rattle.delivery.specs.World.{World, Result, numbered, packet, call}
 use Rattle.delivery.specs.Log.{Item, whole, gapIf}
 use Rattle.delivery.proofs.Laws.Fit.{fit-packet}
-use Rattle.delivery.proofs.Laws.State.{called-with, call-device, lost-rules, packet-rules}
 use Rattle.delivery.proofs.Laws.Runs.{packet-runs}
 use Rattle.delivery.proofs.Laws.Invariant.{Invariant, Kept, writeIndex, currentSlot, known, leftBy, appended}
 
@@ -52,7 +55,8 @@ module _ (geometry : Geometry) (world : World) {pending : List Item} (h : Invari
   unfolding answer packetAnswer
   not-ten =
       let low = lt-leb (ringLength geometry) (readPointer (world .area)) (h .ahead .read-inside) in
-      never-answers 10 (packetRefusals geometry (world .device) (world .area) (world .page) slot events) (rw low)
+      let some = ne-eqb (length (put world slot events)) 0 (records-some (world .device .producer .lost) (currentSlot world) slot (eventsOf events)) in
+      never-answers 10 (packetRefusals geometry (world .device) (world .area) (world .page) slot events) (rw (some, low))
 
   -- refused, but not for room
   refused-kept : (number : ℕ) → number ≢ 0 → number ≢ 7 → number ≢ 10
@@ -67,28 +71,26 @@ module _ (geometry : Geometry) (world : World) {pending : List Item} (h : Invari
   }
 
   -- refused for room
-  lost-kept : Kept geometry world pending (packet slot events) (left world 7 (withLost (world .device)) (world .area))
-  lost-kept =
-      let rules = call-device geometry (world .device) (length (world .area)) (length (world .page)) (h .called) in
-      record {
-        still = pending;
-        invariant = record {
-          called = called-with geometry (withLost (world .device)) (known h) (lost-rules geometry (world .device) rules);
-          on = h .on;
-          packet-size = h .packet-size;
-          is-driver = h .is-driver;
-          ahead = h .ahead;
-        };
-        log = sym (append-nil pending);
-        sender = refl;
-        dry = λ z. absurd (false≢true z);
-        not-ten = λ e. omega arith;
-      }
+  lost-kept : Kept geometry world pending (packet slot events) (left world 7 (withLost true (world .device)) (world .area))
+  lost-kept = record {
+    still = pending;
+    invariant = record {
+      called = call-with geometry _ (known h) (rules-lost (known h .keeps) true);
+      on = h .on;
+      packet-size = h .packet-size;
+      is-driver = h .is-driver;
+      ahead = h .ahead;
+    };
+    log = sym (append-nil pending);
+    sender = refl;
+    dry = λ z. absurd (false≢true z);
+    not-ten = λ e. omega arith;
+  }
 
   -- ---- accepted
 
   abbrev accepts : List Item
-  accepts = gapIf (world .device .lost) ++ (whole slot (eventsOf events) ∷ [])
+  accepts = gapIf (world .device .producer .lost) ++ (whole slot (eventsOf events) ∷ [])
 
   accepted-holds : IsBytes events → answer ≡ 0
       → Invariant geometry (leftBy world (afterPacket slot (indexOf geometry world slot events) (world .device))
@@ -97,18 +99,18 @@ module _ (geometry : Geometry) (world : World) {pending : List Item} (h : Invari
   accepted-holds bytes none =
       let a = accepted geometry (world .device) (world .area) (world .page) slot events none in
       let rules = a .is-call .keeps in
-      let low : slot < slotCount geometry = taken-slot geometry (world .device) slot rules (a .is-taken) in
+      let low : slot < slotCount geometry = taken-slot rules slot (a .is-taken) in
       let small : slot < 2 ^ 32 = omega (arith, few-slots geometry (sizes geometry (a .is-call .is-allowed))) in
       let count : length (eventsOf events) ≡ eventCount events = events-length events 0 (eventCount events) in
       let fits = events-fit events 0 (eventCount events) bytes in
       let inside = after-inside (ringOf geometry) (writeIndex world) (put world slot events) (rules .write-inside) in
-      let still = packet-rules geometry (world .device) slot (indexOf geometry world slot events) rules inside (a .is-taken) in
+      let still = packet-keeps rules slot (indexOf geometry world slot events) inside (a .is-taken) in
       appended geometry h (put world slot events) accepts _ (world .page)
-      (fit-packet (world .device .lost) (currentSlot world) slot (eventsOf events) small fits)
+      (fit-packet (world .device .producer .lost) (currentSlot world) slot (eventsOf events) small fits)
       (a .room)
-      (λ collector held. packet-runs geometry (entryAt geometry (world .page) slot) (world .device .lost) (currentSlot world) slot
+      (λ collector held. packet-runs geometry (entryAt geometry (world .page) slot) (world .device .producer .lost) (currentSlot world) slot
       (eventsOf events) held low (a .offered) fits (omega (arith, count, a .some)) (omega (arith, count, a .few)))
-      refl (h .on) (called-with geometry _ (a .is-call) still)
+      refl (h .on) (call-with geometry _ (a .is-call) still)
 
   accepted-kept : IsBytes events → answer ≡ 0
       → Kept geometry world pending (packet slot events)

@@ -25,12 +25,14 @@ use Rattle.records.proofs.Laws.Place.{pointers-inside}
 use Rattle.assembly.specs.Collect.{Collector}
 use Rattle.driver.specs.Step.{isDriver}
 use Rattle.device.specs.declared.Device.{Device}
-use Rattle.device.proofs.Laws.Call.{Call}
+use Rattle.device.specs.State.{mayRun}
+use Rattle.device.specs.Result.{Result}
+use Rattle.device.proofs.Laws.Call.{Call, call-with}
 use Rattle.access.specs.declared.Place.{Place}
 use Rattle.access.specs.declared.Place.the-variants as place
 use Rattle.access.specs.Place.{placeOf}
 use Rattle.access.specs.Access.{accessAnswer}
-use Rattle.switch_on.specs.SwitchOn.{WriteResult, takenFrom, startRecords, clearedPointers, switchedOn}
+use Rattle.switch_on.specs.SwitchOn.{takenFrom, startRecords, clearedPointers, switchedOn}
 use Rattle.registers.specs.Write.{controlOf, clientRevOf, effectOf, writeOf}
 use Rattle.access.proofs.Laws.Access.{granted}
 use Rattle.switch_on.proofs.Laws.SwitchOn.{start-fits, always-starts, start-events-fit}
@@ -39,7 +41,6 @@ use Rattle.pending.proofs.Laws.Pending.{Pending, pending-none, pending-put}
 use Rattle.delivery.specs.World.{World, write, call}
 use Rattle.delivery.specs.Pending.{driverReader}
 use Rattle.delivery.specs.Premises.{IsFresh}
-use Rattle.delivery.proofs.Laws.State.{called-with, rules-device}
 use Rattle.delivery.proofs.Laws.Holding.{Holding, conf, reset-all}
 use Rattle.delivery.proofs.Laws.Runs.{Runs, none, one, then}
 use Rattle.delivery.proofs.Laws.Invariant.{Invariant}
@@ -100,20 +101,20 @@ module _ (area : List ℕ) (room : 8 ≤ length area) where
 -- ---- the access
 
 -- A write after which a device that was off is on.
-record Switched (geometry : Geometry) (device : Device) (area : List ℕ) (result : WriteResult) : Type 0 where
+record Switched (geometry : Geometry) (device : Device) (area : List ℕ) (result : Result) : Type 0 where
   interrupts : Bool
   device-after : result .outcome .device ≡ switchedOn interrupts (indexAfter (ringOf geometry) 0 (startRecords geometry device)) device
   area-after : result .area ≡ putRecords (ringOf geometry) 0 (startRecords geometry device) (clearedPointers area)
 
-module _ (geometry : Geometry) (device : Device) (area : List ℕ) (ok : allowed geometry ≡ true) (off : device .on ≡ false) where
-  OnlyOn : WriteResult → Type 0
-  OnlyOn result = result .outcome .device .on ≡ true → Switched geometry device area result
+module _ (geometry : Geometry) (device : Device) (area : List ℕ) (ok : allowed geometry ≡ true) (off : device .registers .on ≡ false) where
+  OnlyOn : Result → Type 0
+  OnlyOn result = result .outcome .device .registers .on ≡ true → Switched geometry device area result
 
-  stays-off : (result : WriteResult) → result .outcome .device .on ≡ false → OnlyOn result
+  stays-off : (result : Result) → result .outcome .device .registers .on ≡ false → OnlyOn result
   unfolding OnlyOn
   stays-off result still on = absurd (false≢true (sym still ∙ on))
 
-  not-asked : (wanted two : Bool) → (wanted && (two && not (device .on))) ≡ false → (wanted && two) ≡ false
+  not-asked : (wanted two : Bool) → (wanted && (two && not (device .registers .on))) ≡ false → (wanted && two) ≡ false
   not-asked true true h = absurd (false≢true (sym (rw off at h)))
   not-asked true false h = refl
   not-asked false two h = refl
@@ -121,19 +122,19 @@ module _ (geometry : Geometry) (device : Device) (area : List ℕ) (ok : allowed
   control-switches : (value : ℕ) → OnlyOn (controlOf geometry device area value)
   unfolding controlOf OnlyOn
   control-switches value =
-      either OnlyOn (bit value 0 && (eqb (device .«client_rev») 2 && not (device .on)))
+      either OnlyOn (bit value 0 && (mayRun (device .registers) && not (device .registers .on)))
       (λ asked on.
       let start = always-starts geometry device ok area (bit value 1) in
       record {
         interrupts = bit value 1;
-        device-after = ap (λ (result : WriteResult). result .outcome .device) start;
-        area-after = ap (λ (result : WriteResult). result .area) start;
+        device-after = ap (λ (result : Result). result .outcome .device) start;
+        area-after = ap (λ (result : Result). result .area) start;
       })
-      (λ kept. stays-off _ (not-asked (bit value 0) (eqb (device .«client_rev») 2) kept))
+      (λ kept. stays-off _ (not-asked (bit value 0) (mayRun (device .registers)) kept))
 
-  client-rev-off : (value : ℕ) → clientRevOf device value .on ≡ false
+  client-rev-off : (value : ℕ) → clientRevOf device value .registers .on ≡ false
   unfolding clientRevOf
-  client-rev-off value = either (λ (after : Device). after .on ≡ false) (device .on) (λ on. off) (λ still. off)
+  client-rev-off value = either (λ (after : Device). after .registers .on ≡ false) (device .registers .on) (λ on. off) (λ still. off)
 
   effect-switches : (value : ℕ) (at : Place) → OnlyOn (effectOf geometry device area value at)
   effect-switches value place.Magic = stays-off _ off
@@ -157,8 +158,8 @@ module _ (geometry : Geometry) (device : Device) (area : List ℕ) (ok : allowed
       (λ done. effect-switches value (placeOf geometry offset)) (λ refused. stays-off _ off)
 
 -- a write that changes the state was a call
-was-call : (geometry : Geometry) (device : Device) (area : List ℕ) (pageSize offset width value : ℕ) → device .on ≡ false
-    → writeOf geometry device area pageSize offset width value .outcome .device .on ≡ true → Call geometry device (length area) pageSize
+was-call : (geometry : Geometry) (device : Device) (area : List ℕ) (pageSize offset width value : ℕ) → device .registers .on ≡ false
+    → writeOf geometry device area pageSize offset width value .outcome .device .registers .on ≡ true → Call geometry device (length area) pageSize
 unfolding writeOf
 was-call geometry device area pageSize offset width value off on =
     go (eqb (accessAnswer geometry device (length area) pageSize true offset width) 0) refl
@@ -170,7 +171,7 @@ was-call geometry device area pageSize offset width value off on =
 
 -- ---- the invariant
 
-module _ (geometry : Geometry) (world : World) (fresh : IsFresh (world .collector)) (off : world .device .on ≡ false) where
+module _ (geometry : Geometry) (world : World) (fresh : IsFresh (world .collector)) (off : world .device .registers .on ≡ false) where
   -- an empty ring: both pointers were made 0
   empty : Call geometry (world .device) (length (world .area)) (length (world .page))
       → Pending (driverReader geometry) (ringOf geometry) (clearedPointers (world .area)) 0 (world .collector) [] (Holding noSlot [])
@@ -199,28 +200,27 @@ module _ (geometry : Geometry) (world : World) (fresh : IsFresh (world .collecto
       (λ middle held. start-runs geometry (world .device) (c .is-allowed) held)
 
   module _ (offset width value : ℕ) where
-    abbrev switched : WriteResult
+    abbrev switched : Result
     switched = writeOf geometry (world .device) (world .area) (length (world .page)) offset width value
 
-    called : switched .outcome .device .on ≡ true → Call geometry (world .device) (length (world .area)) (length (world .page))
+    called : switched .outcome .device .registers .on ≡ true → Call geometry (world .device) (length (world .area)) (length (world .page))
     called on = was-call geometry (world .device) (world .area) (length (world .page)) offset width value off on
 
-    switches : switched .outcome .device .on ≡ true → Switched geometry (world .device) (world .area) switched
+    switches : switched .outcome .device .registers .on ≡ true → Switched geometry (world .device) (world .area) switched
     unfolding OnlyOn
     switches on =
         write-switches geometry (world .device) (world .area) (called on .is-allowed) off (length (world .page)) offset width value on
 
-    pub start-holds : call geometry world (write offset width value) .world .device .on ≡ true
+    pub start-holds : call geometry world (write offset width value) .world .device .registers .on ≡ true
         → Invariant geometry (call geometry world (write offset width value) .world) []
     unfolding call
     start-holds on =
         let c = called on in
         let s = switches on in
-        let device = rules-device geometry (world .device) (c .keeps) in
-        let rules = write-keeps geometry (world .device) device (world .area) (length (world .page)) offset width value in
+        let keeps = write-keeps geometry (world .device) (c .keeps) (world .area) (length (world .page)) offset width value in
         let size = write-size geometry (world .device) (world .area) (length (world .page)) offset width value in
         record {
-          called = rw size (called-with geometry _ c rules);
+          called = rw size (call-with geometry _ c keeps);
           on = on;
           packet-size = fresh .size;
           is-driver = fresh-driver geometry (world .collector) fresh;
@@ -228,7 +228,7 @@ module _ (geometry : Geometry) (world : World) (fresh : IsFresh (world .collecto
         }
 
     -- nothing was refused yet
-    pub start-not-lost : call geometry world (write offset width value) .world .device .on ≡ true
-        → call geometry world (write offset width value) .world .device .lost ≡ false
+    pub start-not-lost : call geometry world (write offset width value) .world .device .registers .on ≡ true
+        → call geometry world (write offset width value) .world .device .producer .lost ≡ false
     unfolding call
     start-not-lost on = rw (switches on .device-after)

@@ -18,10 +18,10 @@ use Rattle.assembly.specs.declared.Told.the-variants as told
 use Rattle.assembly.specs.Transition.{answerOf, tells, receive}
 use Rattle.assembly.specs.Collect.{collect}
 use Rattle.reading.specs.declared.Oldest.the-variants as variants
-use Rattle.reading.specs.Reading.{isSized}
+use Rattle.reading.specs.Reading.{isValidArea}
 use Rattle.reading.specs.Oldest.{oldestOf}
 use Rattle.reading.proofs.Laws.Oldest.{oldest-none, oldest-some}
-use Rattle.driver.specs.Step.{isValid}
+use Rattle.driver.specs.Step.{isValidStep}
 use Rattle.driver.proofs.Laws.Step.{step-refused, step-received}
 use Rattle.pending.proofs.Laws.Pending.{movedOn, oldest, pending-nothing, read-gives, pending-read}
 use Rattle.delivery.specs.World.{World, Result, stepped, step, call}
@@ -53,8 +53,8 @@ reads geometry world =
     (collect geometry (oldestIn geometry world) (world .collector) .packet)
 
 module _ (geometry : Geometry) (world : World) {pending : List Item} (h : Invariant geometry world pending) where
-  pub valid : isValid geometry (world .collector .driver) (length (world .area)) (length (world .collector .packet)) ≡ true
-  unfolding isValid isSized
+  pub valid : isValidStep geometry (world .collector .driver) (length (world .area)) (length (world .collector .packet)) ≡ true
+  unfolding isValidStep isValidArea
   valid =
       let c = known h in
       rw (

@@ -17,15 +17,15 @@ use Rattle.entries.specs.Offer.{offersCode, isOffered}
 use Rattle.assembly.specs.Kind.{devKind, kindOf}
 use Rattle.assembly.specs.Transition.{spoiled, joined, reported, withoutSlot}
 use Rattle.assembly.specs.Collect.{collected}
-use Rattle.reading.specs.Reading.{isSized, readingRefusal}
+use Rattle.reading.specs.Reading.{isValidArea, readingRefusal}
 use Rattle.reading.specs.Oldest.{oldestOf}
-use Rattle.driver.specs.Step.{isDriver, isValid, stepOf}
+use Rattle.driver.specs.Step.{isDriver, isValidStep, stepOf}
 use Rattle.device.specs.State.{clientRevRule, currentRule, isDevice}
-use Rattle.device.specs.Call.{isSized as sizedCall, isCall}
+use Rattle.device.specs.Call.{isValidPages, isValidCall}
 use Rattle.packets.specs.Packet.{allOffered}
 use Rattle.packets.specs.Rule.{packetAnswer, packetOf}
-use Rattle.hotplug_add.specs.Add.{addAnswer, addOf}
-use Rattle.hotplug_remove.specs.Remove.{removeAnswer, removeOf}
+use Rattle.hotplug.specs.Add.{addAnswer, addOf}
+use Rattle.hotplug.specs.Remove.{removeAnswer, removeOf}
 use Rattle.access.specs.Access.{accessAnswer}
 use Rattle.access.specs.Place.{placeIn, placeOf}
 use Rattle.switch_on.specs.SwitchOn.{takenFrom, switchOn}
@@ -85,14 +85,14 @@ afterReads = after small afterSteps (write 0x1000 4 36 ∷ [])
 -- the writes leave the device on and the read pointer where it was
 accesses-belong : AllBelong small start accesses
 unfolding overwrite firstRefusal isRecordSize isEntrySize allowed bit eventBytes eventAt putRecord putRecords indexAfter
-    clientRevRule currentRule isDevice sizedCall isCall addAnswer addOf accessAnswer placeIn placeOf takenFrom switchOn
+    clientRevRule currentRule isDevice isValidPages isValidCall addAnswer addOf accessAnswer placeIn placeOf takenFrom switchOn
     controlOf clientRevOf writeOf readOf call
 accesses-belong = (tt, (record { on = refl; same-read-pointer = refl }, (record { on = refl; same-read-pointer = refl }, tt)))
 
 pointer-belongs : AllBelong small afterSteps (write 0x1000 4 36 ∷ [])
 unfolding overwrite firstRefusal isRecordSize isEntrySize allowed bit eventBytes eventAt eventsFrom putRecord putRecords indexAfter
-    offersCode isOffered devKind kindOf spoiled joined reported withoutSlot collected isSized readingRefusal oldestOf
-    isDriver isValid stepOf clientRevRule currentRule isDevice sizedCall isCall allOffered packetAnswer packetOf
+    offersCode isOffered devKind kindOf spoiled joined reported withoutSlot collected isValidArea readingRefusal oldestOf
+    isDriver isValidStep stepOf clientRevRule currentRule isDevice isValidPages isValidCall allOffered packetAnswer packetOf
     addAnswer addOf removeAnswer removeOf accessAnswer placeIn placeOf takenFrom switchOn controlOf clientRevOf writeOf readOf call
 pointer-belongs = (record { on = refl; same-read-pointer = refl }, tt)
 
@@ -113,8 +113,8 @@ all-belong =
 
 pub example : Example
 unfolding overwrite firstRefusal isRecordSize isEntrySize allowed bit eventBytes eventAt eventsFrom putRecord putRecords indexAfter
-    offersCode isOffered devKind kindOf spoiled joined reported withoutSlot collected isSized readingRefusal oldestOf
-    isDriver isValid stepOf clientRevRule currentRule isDevice sizedCall isCall allOffered packetAnswer packetOf
+    offersCode isOffered devKind kindOf spoiled joined reported withoutSlot collected isValidArea readingRefusal oldestOf
+    isDriver isValidStep stepOf clientRevRule currentRule isDevice isValidPages isValidCall allOffered packetAnswer packetOf
     addAnswer addOf removeAnswer removeOf accessAnswer placeIn placeOf takenFrom switchOn controlOf clientRevOf writeOf readOf call
 example =
     let fresh : IsFresh (before .collector) = record { is-fresh = refl; size = refl } in

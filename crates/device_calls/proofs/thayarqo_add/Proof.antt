@@ -36,7 +36,7 @@ use Rattle.walks.proofs.Laws.Frame.{positions, in-local, allocs-all, passes-all
 use Rattle.walks.proofs.Laws.Lent.{lent, given-back}
 use Rattle.walks.proofs.Laws.Callee.{tokens, asks, unsaid, last-list, answers}
 use Rattle.walks.proofs.Laws.Parameters.{Parameter, changed, by-value, number, changed-bytes, read-bytes, slots, stays, valuesOf, typed-all, Walk, meets}
-use Rattle.hotplug_add.specs.Add.{addOf}
+use Rattle.hotplug.specs.Add.{addOf}
 use Rattle.device.specs.declared.Device.{Device}
 use Rattle.device.proofs.Device as DeviceT
 use Rattle.device.proofs.Device.Laws as DeviceL
@@ -45,10 +45,10 @@ use Rattle.device.proofs.Outcome as OutcomeT
 use Rattle.device.proofs.Outcome.Laws as OutcomeL
 use Rattle.geometry.proofs.Geometry as GeometryT
 use Rattle.geometry.proofs.Geometry.Laws as GeometryL
-use Rattle.hotplug_add.proofs.add_rule as rule
-use Rattle.hotplug_add.proofs.add_rule.Symbol as rule-def
-use Rattle.hotplug_add.proofs.add_rule.Symbol.{name as #rule}
-use Rattle.hotplug_add.proofs.add_rule.Met as rule-thm
+use Rattle.hotplug.proofs.add_rule as rule
+use Rattle.hotplug.proofs.add_rule.Symbol as rule-def
+use Rattle.hotplug.proofs.add_rule.Symbol.{name as #rule}
+use Rattle.hotplug.proofs.add_rule.Met as rule-thm
 use Rattle.device_calls.proofs.thayarqo_add.Key.{name as #self}
 use Rattle.device_calls.proofs.thayarqo_add as self
 use Rattle.device_calls.proofs.thayarqo_add.Statement as stated
@@ -119,4 +119,4 @@ thayarqo-add-spec 𝓤 H 𝓜 𝓖 𝓡 =
     entered 𝓤 H (tripleOf 𝓤 H (𝓖 .A) self.signature (self.spec 𝓤 H (𝓖 .A) (𝓜 .mem) (𝓡 .run)))
     (tables 𝓤 H 𝓜 𝓡 code.env .C) (tables 𝓤 H 𝓜 𝓡 code.env .Λ) #self code.function (code.unfolded 𝓤 H 𝓜 𝓡)
     (met 𝓤 H (𝓖 .A) (𝓜 .mem) (𝓡 .run) (givenOf 𝓤 H 𝓜 𝓖) (tablesOf 𝓤 H 𝓜 (tables 𝓤 H 𝓜 𝓡 code.env))
-    (cited 𝓤 H (Rule 𝓤 H (𝓖 .A) (𝓜 .mem) (𝓡 .run)) 𝓜 𝓡 code.env #rule rule-def.routine code.calls-hotplug-add·add-rule (rule-thm.met 𝓤 H 𝓜 𝓖 𝓡)))
+    (cited 𝓤 H (Rule 𝓤 H (𝓖 .A) (𝓜 .mem) (𝓡 .run)) 𝓜 𝓡 code.env #rule rule-def.routine code.calls-hotplug·add-rule (rule-thm.met 𝓤 H 𝓜 𝓖 𝓡)))

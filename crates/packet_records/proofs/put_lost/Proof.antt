@@ -1,3 +1,4 @@
+-- No lost mark puts nothing; else two records, the second where the first left the ring (put-ready, put-next).
 use borrow.Author.Tests.{not-true, not-false}
 use Rattle.records.proofs.Laws.PutAll.{put-none, put-one, put-next, put-ready}
 use borrow.Author.Needs.{needs}
@@ -17,19 +18,25 @@ syn-record-requires-2 : tie.Need-syn-record-requires-2
 syn-record-requires-2 c κs = search needs
 
 put-record-requires-2 : tie.Need-put-record-requires-2
-put-record-requires-2 c κs = let s = c .before .before .before .before .before .before .before .before .before in
-    let put = c .before .before .before .before .put-record in
-    put-ready (s .args .ring) (s .pre .0) (s .pre .1) (put-one (s .args .ring) _ _ (put .ensures .0) (put .ensures .1))
+put-record-requires-2 c κs =
+    let first = c .before .before .before .before in
+    let start = first .before .before .before .before .before in
+    let put = first .put-record .ensures in
+    put-ready (start .args .ring) (start .pre .0) (start .pre .1) (put-one (start .args .ring) _ _ (put .0) (put .1))
 
 same-length : tie.Need-same-length
 same-length c = search needs
 
 returns-2 : tie.Need-returns-2
-returns-2 c = let s = c .before .before .before .before .before .before .before .before .before .before .before .before in
-    let one = c .before .before .before .before .before .before .before .put-record .ensures in
-    let two = c .before .before .put-record2 .ensures in
-    rw (not-false (s .args .lost) (c .before .before .before .before .before .before .before .before .before .before .if1 .left), ← c .before .before .before .before .before .before .before .before .syn-record .ensures, ← c .before .before .before .syn-record2 .ensures)
-    (put-next (s .args .ring) (put-one (s .args .ring) _ _ (one .0) (one .1)) (put-one (s .args .ring) _ _ (two .0) (two .1)))
+returns-2 c =
+    let second = c .before .before in
+    let first = second .before .before .before .before .before in
+    let test = first .before .before .before in
+    let a = test .before .before .args in
+    let one = first .put-record .ensures in
+    let two = second .put-record2 .ensures in
+    rw (not-false (a .lost) (test .if1 .left), ← first .before .syn-record .ensures, ← c .before .before .before .syn-record2 .ensures)
+    (put-next (a .ring) (put-one (a .ring) _ _ (one .0) (one .1)) (put-one (a .ring) _ _ (two .0) (two .1)))
 
 pub put-lost-spec : {M : Type 1} → statement M
 put-lost-spec =

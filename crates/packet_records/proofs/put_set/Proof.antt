@@ -1,3 +1,4 @@
+-- The current slot puts nothing, another one DEV_SET: the two branches of the definition.
 use borrow.Author.Tests.{eq-eqb, ne-eqb}
 use Rattle.records.proofs.Laws.PutAll.{put-none, put-one}
 use borrow.Author.Needs.{needs}
@@ -17,9 +18,11 @@ same-length : tie.Need-same-length
 same-length c = search needs
 
 returns-2 : tie.Need-returns-2
-returns-2 c = let s = c .before .before .before .before .before .before .before in
+returns-2 c =
+    let test = c .before .before .before .before .before in
     let one = c .before .before .put-record .ensures in
-    rw (ne-eqb _ _ (c .before .before .before .before .before .if1 .left), ← c .before .before .before .dev-record .ensures) (put-one (s .args .ring) _ _ (one .0) (one .1))
+    rw (ne-eqb _ _ (test .if1 .left), ← c .before .before .before .dev-record .ensures)
+    (put-one (test .before .before .args .ring) _ _ (one .0) (one .1))
 
 pub put-set-spec : {M : Type 1} → statement M
 put-set-spec =

@@ -1,3 +1,4 @@
+-- The sum of the parts' lengths (records-count); each part is small, so the sum doesn't overflow.
 use Rattle.packet_records.proofs.Laws.Put.{records-count}
 use borrow.Author.Needs.{needs}
 use Rattle.packet_records.proofs.record_count.Statement.{statement}
@@ -24,7 +25,7 @@ add-result-3 c = search needs
 returns : tie.Need-returns
 returns c =
     let a = c .before .before .before .args in
-    records-count (a .device) (a .slot) (a .packet .now) (c .before .lost-count .ensures .0) (c .set-count .ensures .0)
+    records-count (a .lost) (a .current) (a .slot) (a .packet .now) (c .before .lost-count .ensures .0) (c .set-count .ensures .0)
 
 pub record-count-spec : {M : Type 1} → statement M
 record-count-spec =

@@ -1,3 +1,4 @@
+-- One record or none, by the same test as the definition.
 use borrow.Author.Tests.{eq-eqb, ne-eqb}
 use native.Mathlib.Omega.{arith}
 use Rattle.packet_records.proofs.set_count.Statement.{statement}

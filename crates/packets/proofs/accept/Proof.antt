@@ -1,3 +1,4 @@
+-- Each store is one setter of the definition; ISR is what raises answers.
 use borrow.Author.Needs.{needs}
 use Rattle.packets.proofs.accept.Statement.{statement}
 use Rattle.packets.proofs.accept.Tie as tie
@@ -6,7 +7,7 @@ raises-requires : tie.Need-raises-requires
 raises-requires c κs = search needs
 
 returns : tie.Need-returns
-returns c = rw (c .raises .ensures)
+returns c = rw (c .before .before .before .before .raises .ensures)
 
 pub accept-spec : {M : Type 1} → statement M
 accept-spec = tie.close (tie.spec raises-requires returns)

@@ -1,11 +1,12 @@
+-- The events before the i-th are offered, so the rest decides: that is the loop's invariant.
 use Prim.Native.Nat.{_-_}
 use mathlib.Core.Path.{_≡_, refl, sym, _∙_}
 use native.Mathlib.Omega.{arith}
 use lib.ListN.{drop}
 use borrow.Author.Tests.{not-true, not-false}
-use Rattle.packet_records.specs.Packet.{eventsOf}
+use Rattle.records.specs.Packet.{eventsOf}
 use Rattle.packets.specs.Packet.{allOffered}
-use Rattle.packet_records.proofs.Laws.Events.{counted, event-inside, event-of}
+use Rattle.records.proofs.Laws.Packet.{counted, event-inside, event-of}
 use Rattle.packets.proofs.Laws.Offer.{offered-next, not-offered, all-offered}
 use Rattle.packets.proofs.offers_all.Statement.{statement}
 use Rattle.packets.proofs.offers_all.Tie as tie
@@ -20,7 +21,9 @@ loop-holds : tie.Need-loop-holds Inv-loop μ-loop
 loop-holds c = refl
 
 mul-decode : tie.Need-mul-decode Inv-loop μ-loop
-mul-decode c = omega (arith, event-inside (c .before .before .before .before .args .packet .now) _ (c .loop-test .taken), c .before .before .before .before .good)
+mul-decode c =
+    let start = c .before .before .before .before in
+    omega (arith, event-inside (start .args .packet .now) _ (c .loop-test .taken), start .good)
 
 decode-requires : tie.Need-decode-requires Inv-loop μ-loop
 decode-requires c κs = event-inside (c .before .before .before .before .args .packet .now) _ (c .loop-test .taken)
@@ -30,30 +33,38 @@ is-offered-requires c κs = c .before .before .before .before .before .pre
 
 returns : tie.Need-returns Inv-loop μ-loop
 returns c =
-    let s = c .before .before .before .before .before .before .before in
-    let l = c .before .before .before .before .loop in
-    let low = c .before .before .before .loop-test .taken in
-    not-offered (s .args .entry .now) (eventsOf (s .args .packet .now)) (l .i) (rw (counted (s .args .packet .now)) low) (l .inv)
-    (rw (event-of (s .args .packet .now) (l .i) low, ← c .before .before .decode .ensures) (sym (c .before .is-offered .ensures) ∙ not-true _ (c .if1 .taken)))
+    let test = c .before .before .before in
+    let a = test .before .before .before .before .args in
+    let l = test .before .loop in
+    let low = test .loop-test .taken in
+    not-offered (a .entry .now) (eventsOf (a .packet .now)) (l .i) (rw (counted (a .packet .now)) low) (l .inv)
+    (rw (event-of (a .packet .now) (l .i) low, ← c .before .before .decode .ensures)
+    (sym (c .before .is-offered .ensures) ∙ not-true _ (c .if1 .taken)))
 
 add-i : tie.Need-add-i Inv-loop μ-loop
-add-i c = omega (arith, event-inside (c .before .before .before .before .before .before .before .args .packet .now) _ (c .before .before .before .loop-test .taken), c .before .before .before .before .before .before .before .good)
+add-i c =
+    let test = c .before .before .before in
+    let start = test .before .before .before .before in
+    omega (arith, event-inside (start .args .packet .now) _ (test .loop-test .taken), start .good)
 
 loop-less : tie.Need-loop-less Inv-loop μ-loop
 loop-less c = omega arith
 
 loop-again : tie.Need-loop-again Inv-loop μ-loop
 loop-again c =
-    let s = c .before .before .before .before .before .before .before in
-    let l = c .before .before .before .before .loop in
-    let low = c .before .before .before .loop-test .taken in
-    offered-next (s .args .entry .now) (eventsOf (s .args .packet .now)) (l .i) (rw (counted (s .args .packet .now)) low) (l .inv)
-    (rw (event-of (s .args .packet .now) (l .i) low, ← c .before .before .decode .ensures) (sym (c .before .is-offered .ensures) ∙ not-false _ (c .if1 .left)))
+    let test = c .before .before .before in
+    let a = test .before .before .before .before .args in
+    let l = test .before .loop in
+    let low = test .loop-test .taken in
+    offered-next (a .entry .now) (eventsOf (a .packet .now)) (l .i) (rw (counted (a .packet .now)) low) (l .inv)
+    (rw (event-of (a .packet .now) (l .i) low, ← c .before .before .decode .ensures)
+    (sym (c .before .is-offered .ensures) ∙ not-false _ (c .if1 .left)))
 
 returns-2 : tie.Need-returns-2 Inv-loop μ-loop
 returns-2 c =
     let a = c .before .before .before .before .args in
-    all-offered (a .entry .now) (eventsOf (a .packet .now)) (c .before .loop .i) (rw (counted (a .packet .now)) (c .loop-test .left)) (c .before .loop .inv)
+    all-offered (a .entry .now) (eventsOf (a .packet .now)) (c .before .loop .i) (rw (counted (a .packet .now)) (c .loop-test .left))
+    (c .before .loop .inv)
 
 pub offers-all-spec : {M : Type 1} → statement M
 offers-all-spec =

@@ -1,136 +1,88 @@
--- What a write keeps: the state rules, and the length of the event area.
-use Prim.Native.Nat.{ℕ, _≤_, _<_}
+-- What a write keeps: the state rules, by what each setter needs, and the length of the event area.
+use Prim.Native.Nat.{ℕ, _≤_}
 use mathlib.Core.Path.{_≡_, refl, _∙_}
-use mathlib.Core.Bool.{Bool, true, false, not, _&&_, _||_, cond}
+use mathlib.Core.Bool.{Bool, true, false, not, _&&_, _||_, cond, false≢true}
 use mathlib.Core.List.{List}
 use native.Mathlib.Omega.{arith}
 use lib.Dec.{eqb}
 use lib.ListN.{length}
-use borrow.Author.Tests.{lt-ltb, eqb-true}
+use borrow.Author.Tests.{eqb-true}
+use Rattle.answers.proofs.Choice.{either}
 use Rattle.words.specs.Words.{u32Bytes}
 use Rattle.copying.proofs.Laws.Overwrite.{overwrite-length}
 use Rattle.bits.specs.Bits.{bit}
 use Rattle.geometry.specs.declared.Geometry.{Geometry}
-use Rattle.geometry.specs.Geometry.{allowed, ringLength, ringOf}
+use Rattle.geometry.specs.Geometry.{allowed, ringOf}
 use Rattle.geometry.proofs.Laws.Allowed.{both, sizes}
 use Rattle.records.specs.Ring.{Holds, withReadPointer}
 use Rattle.records.proofs.Laws.Place.{pointers-inside}
 use Rattle.records.proofs.Laws.PutAll.{after-inside, puts-length}
 use Rattle.device.specs.declared.Device.{Device}
-use Rattle.device.specs.State.{clientRevRule, currentRule, isDevice}
-use Rattle.device.proofs.Laws.Call.{Rules, rules}
+use Rattle.device.specs.State.{freshProducer, mayRun}
+use Rattle.device.specs.Result.{Result}
+use Rattle.device.proofs.Laws.Rules.{Rules, rules-isr, rules-control, rules-client-rev, rules-producer, rules-write-index, none-current}
 use Rattle.access.specs.declared.Place.{Place}
 use Rattle.access.specs.declared.Place.the-variants.{Magic, Rev, Control, EventSize, Npages, Acceleration, Isr, ConfSize, ClientRev, ReadPtr, EventArea, EntryPage, Nothing}
 use Rattle.access.specs.Place.{placeOf}
 use Rattle.access.specs.Access.{accessAnswer}
-use Rattle.switch_on.specs.SwitchOn.{WriteResult, startRecords, clearedPointers, switchedOn, switchOn}
-use Rattle.registers.specs.Write.{withControl, withIsrCleared, withClientRev, controlOf, clientRevOf, effectOf, writeOf}
 use Rattle.access.proofs.Laws.Access.{granted}
+use Rattle.switch_on.specs.SwitchOn.{startRecords, clearedPointers, switchOn}
 use Rattle.switch_on.proofs.Laws.SwitchOn.{always-starts}
+use Rattle.registers.specs.Write.{controlOf, clientRevOf, effectOf, writeOf}
 
--- a state that keeps each rule keeps the rules
-kept : (geometry : Geometry) (device : Device) → Rules geometry device → isDevice geometry device ≡ true
-unfolding isDevice
-kept geometry device keeps = rw (lt-ltb (device .«write_index») (ringLength geometry) (keeps .write-inside), keeps .client-rev, lt-ltb _ _ (keeps .taken-inside), keeps .current)
+-- on only where it may run
+on-if-may : (wanted may : Bool) → (wanted && may) ≡ true → may ≡ true
+on-if-may true may h = h
+on-if-may false may h = absurd (false≢true h)
 
--- what holds of one where the test holds, and of the other where not, holds of the chosen one
-choose : {A : Type 0} (P : A → Type 0) (test : Bool) (one other : A) → (test ≡ true → P one) → (test ≡ false → P other) → P (cond test one other)
-choose P true one other p q = p refl
-choose P false one other p q = q refl
-
--- CLIENT_REV after a write
-zero-or-two : (two : Bool) → ((eqb (cond two 2 0) 0 || eqb (cond two 2 0) 2) && true) ≡ true
+-- CLIENT_REV after a write is 0 or 2
+zero-or-two : (two : Bool) → (eqb (cond two 2 0) 0 || eqb (cond two 2 0) 2) ≡ true
 zero-or-two true = refl
 zero-or-two false = refl
 
--- on only with CLIENT_REV 2
-on-with-two : (wanted two : Bool) → (not (wanted && two) || two) ≡ true
-on-with-two true true = refl
-on-with-two true false = refl
-on-with-two false true = refl
-on-with-two false false = refl
-
-module _ (geometry : Geometry) (device : Device) (valid : isDevice geometry device ≡ true) where
-  client-rev-parts : let rev = device .«client_rev» in ((eqb rev 0 || eqb rev 2) ≡ true) × ((device .«client_rev_written» || eqb rev 0) ≡ true)
-  unfolding clientRevRule
-  client-rev-parts =
-      let a = both _ _ (rules geometry device valid .client-rev) in
-      (a .0, both (not (device .on) || eqb (device .«client_rev») 2) _ (a .1) .1)
-
-  pub isr-keeps : isDevice geometry (withIsrCleared device) ≡ true
-  unfolding isDevice clientRevRule currentRule
-  isr-keeps = valid
-
-  without-switch : (wanted interrupts : Bool) → isDevice geometry (withControl (wanted && eqb (device .«client_rev») 2) interrupts device) ≡ true
-  unfolding clientRevRule currentRule
-  without-switch wanted interrupts =
-      let keeps = rules geometry device valid in
-      kept geometry _ (record {
-        write-inside = keeps .write-inside;
-        client-rev = rw (client-rev-parts .0, on-with-two wanted (eqb (device .«client_rev») 2), client-rev-parts .1);
-        taken-inside = keeps .taken-inside;
-        current = keeps .current;
-      })
-
-  with-switch : (interrupts : Bool) (index : ℕ) → eqb (device .«client_rev») 2 ≡ true → index < ringLength geometry → isDevice geometry (switchedOn interrupts index device) ≡ true
-  unfolding clientRevRule currentRule
-  with-switch interrupts index two low =
-      kept geometry _ (record {
-        write-inside = low;
-        client-rev = rw (client-rev-parts .0, two, client-rev-parts .1);
-        taken-inside = rules geometry device valid .taken-inside;
-        current = refl;
-      })
-
-  -- CLIENT_REV written while off
-  off-keeps : (value : ℕ) → device .on ≡ false → isDevice geometry (withClientRev value device) ≡ true
-  unfolding clientRevRule currentRule
-  off-keeps value off =
-      let keeps = rules geometry device valid in
-      kept geometry _ (record {
-        write-inside = keeps .write-inside;
-        client-rev = rw off (zero-or-two (eqb value 2));
-        taken-inside = keeps .taken-inside;
-        current = keeps .current;
-      })
-
-  pub client-rev-keeps : (value : ℕ) → isDevice geometry (clientRevOf device value) ≡ true
+module _ (geometry : Geometry) (device : Device) (keeps : Rules geometry device) where
+  client-rev-keeps : (value : ℕ) → Rules geometry (clientRevOf device value)
   unfolding clientRevOf
-  client-rev-keeps value = choose (λ (d : Device). isDevice geometry d ≡ true) (device .on) _ _ (λ on. valid) (off-keeps value)
+  client-rev-keeps value =
+      either (Rules geometry) (device .registers .on) (λ on. keeps) (λ off. rules-client-rev keeps _ off (zero-or-two (eqb value 2)))
 
   module _ (sized : allowed geometry ≡ true) (area : List ℕ) (value : ℕ) where
-    switch-keeps : eqb (device .«client_rev») 2 ≡ true → isDevice geometry (switchOn geometry device area (bit value 1) .outcome .device) ≡ true
-    switch-keeps two =
+    switch-keeps : mayRun (device .registers) ≡ true → Rules geometry (switchOn geometry device area (bit value 1) .outcome .device)
+    switch-keeps may =
+        let s = sizes geometry sized in
         rw (always-starts geometry device sized area (bit value 1))
-        (with-switch (bit value 1) _ two (after-inside (ringOf geometry) 0 (startRecords geometry device) (omega (arith, sizes geometry sized))))
+        (rules-write-index (rules-producer (rules-control keeps true (bit value 1) (λ on. may)) freshProducer (omega (arith, s)) (none-current (device .taken)))
+        _ (after-inside (ringOf geometry) 0 (startRecords geometry device) (omega (arith, s))))
 
-    pub control-keeps : isDevice geometry (controlOf geometry device area value .outcome .device) ≡ true
+    control-keeps : Rules geometry (controlOf geometry device area value .outcome .device)
     unfolding controlOf
     control-keeps =
-        choose (λ (r : WriteResult). isDevice geometry (r .outcome .device) ≡ true) (bit value 0 && (eqb (device .«client_rev») 2 && not (device .on))) _ _
-        (λ on. switch-keeps (both _ _ (both (bit value 0) _ on .1) .0)) (λ on. without-switch (bit value 0) (bit value 1))
+        either (λ (r : Result). Rules geometry (r .outcome .device)) (bit value 0 && (mayRun (device .registers) && not (device .registers .on)))
+        (λ on. switch-keeps (both _ _ (both (bit value 0) _ on .1) .0))
+        (λ on. rules-control keeps _ (bit value 1) (on-if-may (bit value 0) (mayRun (device .registers))))
 
-    effect-keeps : (place : Place) → isDevice geometry (effectOf geometry device area value place .outcome .device) ≡ true
-    effect-keeps Magic = valid
-    effect-keeps Rev = valid
+    effect-keeps : (place : Place) → Rules geometry (effectOf geometry device area value place .outcome .device)
+    effect-keeps Magic = keeps
+    effect-keeps Rev = keeps
     effect-keeps Control = control-keeps
-    effect-keeps EventSize = valid
-    effect-keeps Npages = valid
-    effect-keeps Acceleration = valid
-    effect-keeps Isr = isr-keeps
-    effect-keeps ConfSize = valid
+    effect-keeps EventSize = keeps
+    effect-keeps Npages = keeps
+    effect-keeps Acceleration = keeps
+    effect-keeps Isr = rules-isr keeps false
+    effect-keeps ConfSize = keeps
     effect-keeps ClientRev = client-rev-keeps value
-    effect-keeps ReadPtr = valid
-    effect-keeps EventArea = valid
-    effect-keeps EntryPage = valid
-    effect-keeps Nothing = valid
+    effect-keeps ReadPtr = keeps
+    effect-keeps EventArea = keeps
+    effect-keeps EntryPage = keeps
+    effect-keeps Nothing = keeps
 
   -- any write, refused or not
-  pub write-keeps : (area : List ℕ) (pageSize offset width value : ℕ) → isDevice geometry (writeOf geometry device area pageSize offset width value .outcome .device) ≡ true
+  pub write-keeps : (area : List ℕ) (pageSize offset width value : ℕ)
+      → Rules geometry (writeOf geometry device area pageSize offset width value .outcome .device)
   unfolding writeOf
   write-keeps area pageSize offset width value =
-      choose (λ (r : WriteResult). isDevice geometry (r .outcome .device) ≡ true) (eqb (accessAnswer geometry device (length area) pageSize true offset width) 0) _ _
-      (λ done. effect-keeps (granted _ _ _ _ _ _ _ (eqb-true _ 0 done) .is-call .is-allowed) area value (placeOf geometry offset)) (λ refused. valid)
+      either (λ (r : Result). Rules geometry (r .outcome .device)) (eqb (accessAnswer geometry device (length area) pageSize true offset width) 0)
+      (λ done. effect-keeps (granted _ _ _ _ _ _ _ (eqb-true _ 0 done) .is-call .is-allowed) area value (placeOf geometry offset)) (λ refused. keeps)
 
 -- ---- the event area's length
 
@@ -152,7 +104,7 @@ module _ (geometry : Geometry) (device : Device) (area : List ℕ) (value : ℕ)
   control-size : length (controlOf geometry device area value .area) ≡ length area
   unfolding controlOf
   control-size =
-      choose (λ (r : WriteResult). length (r .area) ≡ length area) (bit value 0 && (eqb (device .«client_rev») 2 && not (device .on))) _ _
+      either (λ (r : Result). length (r .area) ≡ length area) (bit value 0 && (mayRun (device .registers) && not (device .registers .on)))
       (λ on. switch-size (bit value 1)) (λ on. refl)
 
   effect-size : (place : Place) → length (effectOf geometry device area value place .area) ≡ length area
@@ -173,6 +125,6 @@ module _ (geometry : Geometry) (device : Device) (area : List ℕ) (value : ℕ)
 pub write-size : (geometry : Geometry) (device : Device) (area : List ℕ) (pageSize offset width value : ℕ) → length (writeOf geometry device area pageSize offset width value .area) ≡ length area
 unfolding writeOf
 write-size geometry device area pageSize offset width value =
-    choose (λ (r : WriteResult). length (r .area) ≡ length area) (eqb (accessAnswer geometry device (length area) pageSize true offset width) 0) _ _
+    either (λ (r : Result). length (r .area) ≡ length area) (eqb (accessAnswer geometry device (length area) pageSize true offset width) 0)
     (λ done. let call = granted _ _ _ _ _ _ _ (eqb-true _ 0 done) .is-call in effect-size geometry device area value (call .is-allowed) (call .holds) (placeOf geometry offset))
     (λ refused. refl)

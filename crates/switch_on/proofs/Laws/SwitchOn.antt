@@ -14,18 +14,21 @@ use Rattle.records.specs.Event.{AllFit}
 use Rattle.records.specs.Put.{Put}
 use Rattle.device.specs.declared.Device.{Device}
 use Rattle.device.specs.declared.Outcome.{Outcome}
-use Rattle.switch_on.specs.SwitchOn.{takenSlots, startRecords, clearedPointers, switchedOn, WriteResult, started, switchOn}
+use Rattle.device.specs.Result.{Result}
+use Rattle.switch_on.specs.SwitchOn.{takenSlots, startRecords, clearedPointers, switchedOn, started, switchOn}
 use Rattle.switch_on.proofs.Laws.Slots.{few-taken, slots-fit}
 
 start-count : (geometry : Geometry) (device : Device) → length (startRecords geometry device) ≡ length (takenSlots geometry device) + 1
 start-count geometry device = simp length-map (omega arith)
 
 -- what a write leaves is what a definition says
-abbrev pub Leaves : Outcome → List ℕ → WriteResult → Type 0
+abbrev pub Leaves : Outcome → List ℕ → Result → Type 0
 Leaves outcome after result = (outcome ≡ result .outcome) × (after ≡ result .area)
 
-module _ (geometry : Geometry) (device : Device) (area : List ℕ) (interrupts : Bool) {count : ℕ} (counted : count ≡ length (takenSlots geometry device)) where
-  pub no-room : ringLength geometry - 1 < count + 1 → Leaves (record { answer = 7; device = device }) area (switchOn geometry device area interrupts)
+module _ (geometry : Geometry) (device : Device) (area : List ℕ) (interrupts : Bool) {count : ℕ}
+    (counted : count ≡ length (takenSlots geometry device)) where
+  pub no-room : ringLength geometry - 1 < count + 1
+      → Leaves (record { answer = 7; device = device }) area (switchOn geometry device area interrupts)
   unfolding switchOn
   no-room h =
       let test = lt-leb (length (startRecords geometry device)) (ringLength geometry - 1) (omega (arith, start-count geometry device)) in

@@ -1,3 +1,4 @@
+-- A taken slot puts DEV_CONF, another one nothing: the two branches of the definition.
 use Rattle.records.proofs.Laws.PutAll.{put-none, put-one}
 use borrow.Author.Tests.{not-true, not-false}
 use mathlib.Core.Path.{sym, _∙_}
@@ -21,8 +22,11 @@ same-length : tie.Need-same-length
 same-length c = search needs
 
 returns-2 : tie.Need-returns-2
-returns-2 c = let one = c .before .before .put-record .ensures in
-    rw (sym (c .before .before .before .before .before .before .is-set .ensures) ∙ not-false _ (c .before .before .before .before .before .if1 .left), ← c .before .before .before .dev-record .ensures) (put-one (c .before .before .before .before .before .before .before .before .args .ring) _ _ (one .0) (one .1))
+returns-2 c =
+    let test = c .before .before .before .before .before in
+    let one = c .before .before .put-record .ensures in
+    rw (sym (test .before .is-set .ensures) ∙ not-false _ (test .if1 .left), ← c .before .before .before .dev-record .ensures)
+    (put-one (test .before .before .before .args .ring) _ _ (one .0) (one .1))
 
 pub put-slot-spec : {M : Type 1} → statement M
 put-slot-spec =

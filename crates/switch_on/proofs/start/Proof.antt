@@ -1,3 +1,4 @@
+-- The count of the taken slots decides (no-room, starts); the ring is large enough for the arithmetic, as every geometry's is.
 use Rattle.geometry.proofs.Laws.Slots.{few-slots}
 use Rattle.geometry.proofs.Laws.Allowed.{sizes}
 use mathlib.Core.Path.{_∙_}
@@ -18,22 +19,39 @@ taken-count-requires : tie.Need-taken-count-requires
 taken-count-requires c κs = search needs
 
 add-count : tie.Need-add-count
-add-count c = let s = c .before .before .before .before in
-    omega (arith, c .taken-count .ensures, few-taken (s .args .device .taken) 0 (c .before .slot-count .result), c .before .slot-count .ensures, few-slots _ (sizes (s .args .geometry) (s .pre .0)))
+add-count c =
+    let s = c .before .before .before .before in
+    let slots = c .before .slot-count in
+    omega (
+      arith,
+      c .taken-count .ensures,
+      few-taken (s .args .device .taken) 0 (slots .result),
+      slots .ensures,
+      few-slots _ (sizes (s .args .geometry) (s .pre .0)),
+    )
 
 sub-if1 : tie.Need-sub-if1
-sub-if1 c = let s = c .before .before .before .before .before in
+sub-if1 c =
+    let s = c .before .before .before .before .before in
     rw (c .before .before .before .ring-of .ensures) (omega (arith, sizes (s .args .geometry) (s .pre .0)))
 
 returns : tie.Need-returns
-returns c = no-room (c .before .before .before .before .before .before .args .geometry) (c .before .before .before .before .before .before .args .device) (c .before .before .before .before .before .before .args .area .now) (c .before .before .before .before .before .before .args .interrupts) (c .before .before .taken-count .ensures ∙ rw (c .before .before .before .slot-count .ensures)) (rw (c .before .before .before .before .ring-of .ensures) at (c .if1 .taken))
+returns c =
+    let count = c .before .before in
+    let ring = count .before .before in
+    let a = ring .before .before .args in
+    no-room (a .geometry) (a .device) (a .area .now) (a .interrupts) (count .taken-count .ensures ∙ rw (count .before .slot-count .ensures))
+    (rw (ring .ring-of .ensures) at (c .if1 .taken))
 
 clear-pointers-requires : tie.Need-clear-pointers-requires
 clear-pointers-requires c κs = search needs
 
 put-start-requires : tie.Need-put-start-requires
-put-start-requires c κs = let s = c .before .before .before .before .before .before .before .before .before .before .before in
-    rw (c .before .before .before .before .before .before .before .before .before .ring-of .ensures, c .before .before .before .clear-pointers .kept .0) (s .pre .1, omega (arith, sizes (s .args .geometry) (s .pre .0)))
+put-start-requires c κs =
+    let cleared = c .before .before .before in
+    let ring = cleared .before .before .before .before .before .before in
+    let s = ring .before .before in
+    rw (ring .ring-of .ensures, cleared .clear-pointers .kept .0) (s .pre .1, omega (arith, sizes (s .args .geometry) (s .pre .0)))
 
 switched-requires : tie.Need-switched-requires
 switched-requires c κs = search needs
@@ -42,7 +60,15 @@ same-length : tie.Need-same-length
 same-length c = search needs
 
 returns-2 : tie.Need-returns-2
-returns-2 c = starts (c .before .before .before .before .before .before .before .before .before .before .before .before .before .before .before .args .geometry) (c .before .before .before .before .before .before .before .before .before .before .before .before .before .before .before .args .device) (c .before .before .before .before .before .before .before .before .before .before .before .before .before .before .before .args .area .now) (c .before .before .before .before .before .before .before .before .before .before .before .before .before .before .before .args .interrupts) (c .before .before .before .before .before .before .before .before .before .before .before .taken-count .ensures ∙ rw (c .before .before .before .before .before .before .before .before .before .before .before .before .slot-count .ensures)) (rw (c .before .before .before .before .before .before .before .before .before .before .before .before .before .ring-of .ensures) at (c .before .before .before .before .before .before .before .before .before .if1 .left)) (c .before .before .before .before .before .before .before .clear-pointers .ensures) (rw (c .before .before .before .before .before .before .before .before .before .before .before .before .slot-count .ensures, c .before .before .before .before .before .before .before .before .before .before .before .before .before .ring-of .ensures) at (c .before .before .before .put-start .ensures)) (c .switched .ensures)
+returns-2 c =
+    let cleared = c .before .before .before .before .before .before .before in
+    let test = cleared .before .before in
+    let count = test .before .before in
+    let ring = count .before .before in
+    let a = ring .before .before .args in
+    starts (a .geometry) (a .device) (a .area .now) (a .interrupts) (count .taken-count .ensures ∙ rw (count .before .slot-count .ensures))
+    (rw (ring .ring-of .ensures) at (test .if1 .left)) (cleared .clear-pointers .ensures)
+    (rw (count .before .slot-count .ensures, ring .ring-of .ensures) at (c .before .before .before .put-start .ensures)) (c .switched .ensures)
 
 pub start-spec : {M : Type 1} → statement M
 start-spec =

@@ -1,3 +1,4 @@
+-- What is counted and what is left to count add up to all (Counted).
 use borrow.Author.Needs.{needs}
 use mathlib.Core.Path.{_∙_}
 use Prim.Native.Nat.{_-_}
@@ -31,10 +32,17 @@ loop-less : tie.Need-loop-less Inv-loop μ-loop
 loop-less c = omega arith
 
 loop-again : tie.Need-loop-again Inv-loop μ-loop
-loop-again c = count-goes-on (c .before .before .before .before .args .taken) (c .before .before .before .before .args .slots) (c .before .before .before .loop .count) (c .before .before .before .loop .slot) (c .before .before .before .loop .inv) (c .before .before .loop-test .taken) (c .bit-of .ensures .0 ∙ rw (c .before .is-set .ensures))
+loop-again c =
+    let l = c .before .before .before .loop in
+    let a = c .before .before .before .before .args in
+    count-goes-on (a .taken) (a .slots) (l .count) (l .slot) (l .inv) (c .before .before .loop-test .taken)
+    (c .bit-of .ensures .0 ∙ rw (c .before .is-set .ensures))
 
 returns : tie.Need-returns Inv-loop μ-loop
-returns c = count-ends (c .before .before .args .taken) (c .before .before .args .slots) (c .before .loop .count) (c .before .loop .slot) (c .before .loop .inv) (c .loop-test .left)
+returns c =
+    let l = c .before .loop in
+    let a = c .before .before .args in
+    count-ends (a .taken) (a .slots) (l .count) (l .slot) (l .inv) (c .loop-test .left)
 
 pub taken-count-spec : {M : Type 1} → statement M
 taken-count-spec =

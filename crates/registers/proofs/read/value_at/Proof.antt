@@ -1,3 +1,4 @@
+-- The place decides: one return a place, each the definition's line for it; words of the pages lie within them (area-word, page-word).
 use Rattle.access.proofs.Laws.Place.{area-begins, page-begins}
 use lib.ListN.{length}
 use Rattle.access.proofs.Laws.Access.{Granted, granted, pointer-inside, area-word, page-word}

@@ -1,3 +1,4 @@
+-- The place decides: each has its own function's promise, and every other place has no effect (no-effect).
 use mathlib.Core.Path.{_∙_}
 use Rattle.registers.proofs.Laws.Write.{no-effect}
 use borrow.Author.Needs.{needs}
@@ -38,7 +39,10 @@ same-length : tie.Need-same-length
 same-length c = search needs
 
 returns : tie.Need-returns
-returns c = (c .before .before .write-control .ensures .0 ∙ rw (c .before .before .before .before .enum-told .given .1), c .before .before .write-control .ensures .1 ∙ rw (c .before .before .before .before .enum-told .given .1))
+returns c =
+    let control = c .before .before .write-control .ensures in
+    let place = c .before .before .before .before .enum-told .given .1 in
+    (control .0 ∙ rw place, control .1 ∙ rw place)
 
 returns-2 : tie.Need-returns-2
 returns-2 c = (c .write-isr .ensures ∙ rw (c .before .enum-told2 .given .1), rw (c .before .enum-told2 .given .1))
@@ -50,10 +54,15 @@ same-length-2 : tie.Need-same-length-2
 same-length-2 c = search needs
 
 returns-4 : tie.Need-returns-4
-returns-4 c = (c .done .ensures ∙ rw (c .before .before .before .before .before .enum-told4 .given .1), c .before .before .before .set-read-pointer .ensures ∙ rw (c .before .before .before .before .before .enum-told4 .given .1))
+returns-4 c =
+    let place = c .before .before .before .before .before .enum-told4 .given .1 in
+    (c .done .ensures ∙ rw place, c .before .before .before .set-read-pointer .ensures ∙ rw place)
 
 returns-5 : tie.Need-returns-5
-returns-5 c = let none = no-effect (c .before .before .before .args .geometry) (c .before .before .before .args .device) (c .before .before .before .args .area .now) (c .before .before .before .args .value) (c .before .before .before .args .place) (c .before .match .keys5) in (c .done2 .ensures ∙ rw none, rw none)
+returns-5 c =
+    let a = c .before .before .before .args in
+    let none = no-effect (a .geometry) (a .device) (a .area .now) (a .value) (a .place) (c .before .match .keys5) in
+    (c .done2 .ensures ∙ rw none, rw none)
 
 pub write-at-spec : {M : Type 1} → statement M
 write-at-spec =

@@ -1,6 +1,6 @@
-use borrow.Author.Tests.{ne-eqb, eq-eqb}
-use Rattle.registers.specs.Write.{clientRevOf}
+-- On, nothing changes; off, the two stores are the definition's setter.
 use mathlib.Core.Path.{_∙_}
+use Rattle.registers.specs.Write.{clientRevOf}
 use borrow.Author.Needs.{needs}
 use Rattle.registers.proofs.write.write_client_rev.Statement.{statement}
 use Rattle.registers.proofs.write.write_client_rev.Tie as tie
@@ -12,20 +12,16 @@ returns : tie.Need-returns
 unfolding clientRevOf
 returns c = c .done .ensures ∙ rw (c .before .if1 .taken)
 
+client-rev-for-requires : tie.Need-client-rev-for-requires
+client-rev-for-requires c κs = search needs
+
 done-requires-2 : tie.Need-done-requires-2
 done-requires-2 c κs = search needs
 
 returns-2 : tie.Need-returns-2
 unfolding clientRevOf
-returns-2 c = c .done2 .ensures ∙ rw (c .before .before .if1 .left, eq-eqb _ _ (c .before .if2 .taken))
-
-done-requires-3 : tie.Need-done-requires-3
-done-requires-3 c κs = search needs
-
-returns-3 : tie.Need-returns-3
-unfolding clientRevOf
-returns-3 c = c .done3 .ensures ∙ rw (c .before .before .if1 .left, ne-eqb _ _ (c .before .if2 .left))
+returns-2 c = c .done2 .ensures ∙ rw (c .before .before .before .before .if1 .left, c .before .before .before .client-rev-for .ensures)
 
 pub write-client-rev-spec : {M : Type 1} → statement M
 write-client-rev-spec =
-    tie.close (tie.spec done-requires returns done-requires-2 returns-2 done-requires-3 returns-3)
+    tie.close (tie.spec done-requires returns client-rev-for-requires done-requires-2 returns-2)

@@ -1,3 +1,4 @@
+-- Judged by its table; refused it leaves all as it was, granted it does what its place says.
 use mathlib.Core.Bool.{true}
 use mathlib.Core.Path.{sym, _∙_}
 use lib.ListN.{length}
@@ -7,34 +8,47 @@ use borrow.Author.Needs.{needs}
 use Rattle.registers.proofs.write.write_rule.Statement.{statement}
 use Rattle.registers.proofs.write.write_rule.Tie as tie
 
-is-call-requires : tie.Need-is-call-requires
-is-call-requires c κs = search needs
+is-valid-call-requires : tie.Need-is-valid-call-requires
+is-valid-call-requires c κs = search needs
 
 access-refusal-requires : tie.Need-access-refusal-requires
 access-refusal-requires c κs = search needs
 
 returns : tie.Need-returns
-returns c = write-refused (c .before .before .before .before .before .args .geometry) (c .before .before .before .before .before .args .device) (c .before .before .before .before .before .args .area .now) (length (c .before .before .before .before .before .args .page .now)) (c .before .before .before .before .before .args .offset) (c .before .before .before .before .before .args .width) (c .before .before .before .before .before .args .value) (judged _ _ _ _ _ _ _ (c .before .access-refusal .ensures) (c .before .before .is-call .ensures)) (c .if1 .taken)
+returns c =
+    let a = c .before .before .before .before .before .args in
+    write-refused (a .geometry) (a .device) (a .area .now) (length (a .page .now)) (a .offset) (a .width) (a .value)
+    (judged _ _ _ _ _ _ _ (c .before .access-refusal .ensures) (c .before .before .is-valid-call .ensures)) (c .if1 .taken)
 
 place-of-requires : tie.Need-place-of-requires
 place-of-requires c κs = search needs
 
 write-at-requires : tie.Need-write-at-requires
 write-at-requires c κs =
-    let known = granted (c .before .before .before .before .before .before .before .args .geometry) (c .before .before .before .before .before .before .before .args .device) (length (c .before .before .before .before .before .before .before .args .area .now)) (length (c .before .before .before .before .before .before .before .args .page .now)) true (c .before .before .before .before .before .before .before .args .offset) (c .before .before .before .before .before .before .before .args .width) (sym (judged _ _ _ _ _ _ _ (c .before .before .before .access-refusal .ensures) (c .before .before .before .before .is-call .ensures)) ∙ c .before .before .if1 .left) in
+    let test = c .before .before in
+    let a = test .before .before .before .before .before .args in
+    let answer = judged _ _ _ _ _ _ _ (test .before .access-refusal .ensures) (test .before .before .is-valid-call .ensures) in
+    let known = granted (a .geometry) (a .device) (length (a .area .now)) (length (a .page .now)) true (a .offset) (a .width)
+    (sym answer ∙ test .if1 .left) in
     (known .is-call .is-allowed, known .is-call .holds)
 
 same-length : tie.Need-same-length
 same-length c = search needs
 
 returns-2 : tie.Need-returns-2
-returns-2 c = write-granted (c .before .before .before .before .before .before .before .before .before .before .args .geometry) (c .before .before .before .before .before .before .before .before .before .before .args .device) (c .before .before .before .before .before .before .before .before .before .before .args .area .now) (length (c .before .before .before .before .before .before .before .before .before .before .args .page .now)) (c .before .before .before .before .before .before .before .before .before .before .args .offset) (c .before .before .before .before .before .before .before .before .before .before .args .width) (c .before .before .before .before .before .before .before .before .before .before .args .value) (judged _ _ _ _ _ _ _ (c .before .before .before .before .before .before .access-refusal .ensures) (c .before .before .before .before .before .before .before .is-call .ensures)) (c .before .before .before .before .before .if1 .left) (c .before .before .before .before .place-of .ensures) (c .before .before .write-at .ensures)
+returns-2 c =
+    let place = c .before .before .before .before in
+    let test = place .before in
+    let a = test .before .before .before .before .before .args in
+    write-granted (a .geometry) (a .device) (a .area .now) (length (a .page .now)) (a .offset) (a .width) (a .value)
+    (judged _ _ _ _ _ _ _ (test .before .access-refusal .ensures) (test .before .before .is-valid-call .ensures)) (test .if1 .left)
+    (place .place-of .ensures) (c .before .before .write-at .ensures)
 
 pub write-rule-spec : {M : Type 1} → statement M
 write-rule-spec =
     tie.close
     (tie.spec
-    is-call-requires
+    is-valid-call-requires
     access-refusal-requires
     returns
     place-of-requires

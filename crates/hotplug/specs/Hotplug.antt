@@ -1,0 +1,37 @@
+-- What an add and a remove share: the record that is put while on, and what such a call leaves.
+use Prim.Native.Nat.{ℕ}
+use mathlib.Core.Bool.{Bool, cond}
+use mathlib.Core.List.{List, [], _∷_}
+use lib.Dec.{eqb}
+use Rattle.answers.specs.Answers.{done}
+use Rattle.geometry.specs.declared.Geometry.{Geometry}
+use Rattle.geometry.specs.Geometry.{ringOf}
+use Rattle.records.specs.declared.Event.{Event}
+use Rattle.records.specs.Put.{putRecords, indexAfter}
+use Rattle.device.specs.declared.Device.{Device}
+use Rattle.device.specs.declared.Outcome.{Outcome}
+use Rattle.device.specs.Setters.{withWriteIndex}
+use Rattle.device.specs.Result.{outcomeOf}
+
+-- While on, the call puts one record; while off, none.
+abbrev pub recordsIf : Bool → Event → List Event
+recordsIf on event = cond on (event ∷ []) []
+
+-- The state after these records are put.
+abbrev pub afterRecords : Geometry → List Event → Device → Device
+afterRecords geometry records device = withWriteIndex (indexAfter (ringOf geometry) (device .producer .«write_index») records) device
+
+-- The event area after these records are put.
+abbrev pub areaAfter : Geometry → Device → List Event → List ℕ → List ℕ
+areaAfter geometry device records area = putRecords (ringOf geometry) (device .producer .«write_index») records area
+
+-- What a call leaves: its answer with the state, the event area, the entry page.
+pub record HotplugResult : Type 0 where
+  pub outcome : Outcome
+  pub area : List ℕ
+  pub page : List ℕ
+
+-- A refusal changes no state and no byte.
+abbrev pub unlessRefused : ℕ → Device → List ℕ → List ℕ → HotplugResult → HotplugResult
+unlessRefused answer device area page accepted =
+    cond (eqb answer done) accepted (record { outcome = outcomeOf answer device; area = area; page = page })

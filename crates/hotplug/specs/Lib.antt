@@ -1,0 +1,3 @@
+pub mod Hotplug
+pub mod Add
+pub mod Remove
