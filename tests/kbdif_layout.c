@@ -1,4 +1,4 @@
-// Builds the page of crates/ring_page with the structs and macros of Xen's header, and prints it as that program
+// Builds the page of crates/kbdif_sample_page with the structs and macros of Xen's header, and prints it as that program
 // does. Then prints the ring's constants, and the offset and size of each field that is used.
 #include <stddef.h>
 #include <stdint.h>

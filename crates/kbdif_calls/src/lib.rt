@@ -1,0 +1,85 @@
+// The keyboard ring. Each end keeps its own index, and lends it to its call.
+use answers::DONE;
+use answers::INVALID;
+use answers::MALFORMED;
+use kbdif_decode::Decoded;
+use kbdif_events::EVENT_LENGTH;
+use kbdif_numbers::FoundNumbers;
+use kbdif_numbers::RingNumbers;
+use kbdif_page::IN_CONS;
+ghost use mathlib.Core.Path.{_≡_};
+ghost use Rattle.kbdif.specs.Put.{putOf};
+ghost use Rattle.kbdif.specs.Take.{takeOf};
+ghost use Rattle.kbdif_numbers.specs.Numbers.{foundOf};
+ghost use Rattle.kbdif_calls.specs.Calls.{encodeAnswer, encodedBytes, decodedOf};
+
+#[no_mangle]
+pub extern "C" fn thayarqo_ring_encode(out: &mut [u8], event: RingNumbers) -> u8
+    ensures { λ r. ⌜ (r ≡ encodeAnswer (now (out .entry)) event) × (now (out .exit) ≡ encodedBytes (now (out .entry)) event) ⌝ }
+{
+    if out.len() != EVENT_LENGTH {
+        return INVALID;
+    }
+    let value = kbdif_numbers::convert::event_of(event);
+    if !kbdif_events::is_known(value) {
+        return MALFORMED;
+    }
+    kbdif_events::encode(out, value);
+    DONE
+}
+
+fn decoded(bytes: &[u8], contact_limit: u32) -> Decoded
+    ensures { λ r. ⌜ r ≡ decodedOf (now (bytes .entry)) «contact_limit» ⌝ }
+{
+    if bytes.len() != EVENT_LENGTH {
+        return Decoded::Refused(INVALID);
+    }
+    if !kbdif_page::is_contact_limit(contact_limit) {
+        return Decoded::Refused(INVALID);
+    }
+    kbdif_decode::decode(bytes, contact_limit)
+}
+
+#[no_mangle]
+pub extern "C" fn thayarqo_ring_decode(bytes: &[u8], contact_limit: u32) -> FoundNumbers
+    ensures { λ r. ⌜ r ≡ foundOf (decodedOf (now (bytes .entry)) «contact_limit») ⌝ }
+{
+    kbdif_numbers::found_of(decoded(bytes, contact_limit))
+}
+
+#[no_mangle]
+pub extern "C" fn thayarqo_ring_put(
+    page: &mut [u8],
+    in_prod: &mut u32,
+    contact_limit: u32,
+    event: &[u8],
+) -> u8
+    ensures { λ r. ⌜ (let stored = putOf (now (page .entry)) (now («in_prod» .entry)) «contact_limit» (now (event .entry)) in
+        (r ≡ stored .result .answer) × (now («in_prod» .exit) ≡ stored .result .«in_prod») × (now (page .exit) ≡ stored .page)) ⌝ }
+{
+    let stored = kbdif::put(page, *in_prod, contact_limit, event);
+    *in_prod = stored.in_prod;
+    stored.answer
+}
+
+#[no_mangle]
+pub extern "C" fn thayarqo_ring_take(
+    page: &mut [u8],
+    in_cons: &mut u32,
+    contact_limit: u32,
+) -> FoundNumbers
+    ensures { λ r. ⌜ (let taken = takeOf (now (page .entry)) (now («in_cons» .entry)) «contact_limit» in
+        (r ≡ foundOf (taken .result .found)) × (now («in_cons» .exit) ≡ taken .result .«in_cons») × (now (page .exit) ≡ taken .page)) ⌝ }
+{
+    let index = *in_cons;
+    let answer = kbdif::take_refusal(&page[..], index, contact_limit);
+    if answer != DONE {
+        return kbdif_numbers::refused(answer);
+    }
+    let at = kbdif_page::event_place(index);
+    // The index moves before the event is read, so that the result isn't held meanwhile.
+    let next = kbdif_page::next_index(index);
+    words::write_u32(page, IN_CONS, next);
+    *in_cons = next;
+    kbdif_found::found_at(&page[at..at + EVENT_LENGTH], contact_limit)
+}
