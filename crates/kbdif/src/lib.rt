@@ -5,8 +5,8 @@ use answers::INVALID;
 use answers::MALFORMED;
 use answers::NO_ROOM;
 use answers::NOTHING_TO_READ;
-use kbdif_decode::Decoded;
 use kbdif_events::EVENT_LENGTH;
+use kbdif_numbers::FoundNumbers;
 use kbdif_page::IN_CONS;
 use kbdif_page::IN_PROD;
 use kbdif_page::PAGE_LENGTH;
@@ -15,7 +15,7 @@ ghost use mathlib.Core.Path.{_≡_};
 ghost use lib.ListN.{length};
 ghost use Rattle.answers.specs.Refusals.{firstRefusal};
 ghost use Rattle.kbdif_events.specs.Event.{eventLength};
-ghost use Rattle.kbdif_decode.specs.Decode.{numberOf};
+ghost use Rattle.kbdif_numbers.specs.Numbers.{foundOf};
 ghost use Rattle.kbdif.specs.Put.{putRefusals, putOf};
 ghost use Rattle.kbdif.specs.Take.{waitingRefusals, takeNumber, takeOf};
 
@@ -27,7 +27,7 @@ pub struct Stored {
 
 // What a take found, and the private in_cons after it.
 pub struct Taken {
-    pub found: Decoded,
+    pub found: FoundNumbers,
     pub in_cons: u32,
 }
 
@@ -90,7 +90,7 @@ pub fn put(page: &mut [u8], in_prod: u32, contact_limit: u32, event: &[u8]) -> S
 }
 
 // What a take answers before it looks at its event.
-pub fn take_refusal(page: &[u8], in_cons: u32, contact_limit: u32) -> u8
+fn take_refusal(page: &[u8], in_cons: u32, contact_limit: u32) -> u8
     ensures { λ r. ⌜ r ≡ firstRefusal (waitingRefusals (now (page .entry)) «in_cons» «contact_limit») ⌝ }
 {
     if page.len() != PAGE_LENGTH {
@@ -111,20 +111,23 @@ pub fn take_refusal(page: &[u8], in_cons: u32, contact_limit: u32) -> u8
     BAD_INDEX
 }
 
-// The front end's call. Its own index is the private one, never that of the page.
+// The front end's call. Its own index is the private one, never that of the page. The event is read before the index is written: from
+// then on the back end may fill its place.
 pub fn take(page: &mut [u8], in_cons: u32, contact_limit: u32) -> Taken
     ensures { λ r. ⌜ (let taken = takeOf (now (page .entry)) «in_cons» «contact_limit» in
-        (numberOf (r .found) ≡ takeNumber (now (page .entry)) «in_cons» «contact_limit») × (r ≡ taken .result) × (now (page .exit) ≡ taken .page)) ⌝ }
+        (r .found .answer ≡ takeNumber (now (page .entry)) «in_cons» «contact_limit») × (r .found ≡ foundOf (taken .found))
+        × (r .«in_cons» ≡ taken .inCons) × (now (page .exit) ≡ taken .page)) ⌝ }
 {
     let answer = take_refusal(&page[..], in_cons, contact_limit);
     if answer != DONE {
         return Taken {
-            found: Decoded::Refused(answer),
+            found: kbdif_numbers::refused(answer),
             in_cons,
         };
     }
     let at = kbdif_page::event_place(in_cons);
-    let found = kbdif_decode::decode(&page[at..at + EVENT_LENGTH], contact_limit);
+    let form = kbdif_decode::form_of(&page[at..at + EVENT_LENGTH], contact_limit);
+    let found = kbdif_numbers::found_as(form, &page[at..at + EVENT_LENGTH]);
     let next = kbdif_page::next_index(in_cons);
     words::write_u32(page, IN_CONS, next);
     Taken {

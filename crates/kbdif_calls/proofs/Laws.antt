@@ -1,2 +1,2 @@
 pub mod Encode
-pub mod Taken
+pub mod Decode

@@ -7,8 +7,7 @@ use lib.ListN.{length}
 use Rattle.answers.specs.Answers.{done, invalid, malformed}
 use Rattle.answers.specs.Refusals.{firstRefusal}
 use Rattle.kbdif_events.specs.Event.{eventLength, eventBytes, known}
-use Rattle.kbdif_decode.specs.Decode.{eventAt, eventRefusals, answered}
-use Rattle.kbdif_decode.specs.declared.Decoded.{Decoded}
+use Rattle.kbdif_decode.specs.Decode.{Decoded, eventAt, eventRefusals, answered}
 use Rattle.kbdif_page.specs.Page.{isContactLimit}
 use Rattle.kbdif_numbers.specs.Numbers.{eventOf}
 use Rattle.kbdif_numbers.specs.declared.RingNumbers.{RingNumbers}

@@ -2,11 +2,9 @@
 use answers::DONE;
 use answers::INVALID;
 use answers::MALFORMED;
-use kbdif_decode::Decoded;
 use kbdif_events::EVENT_LENGTH;
 use kbdif_numbers::FoundNumbers;
 use kbdif_numbers::RingNumbers;
-use kbdif_page::IN_CONS;
 ghost use mathlib.Core.Path.{_≡_};
 ghost use Rattle.kbdif.specs.Put.{putOf};
 ghost use Rattle.kbdif.specs.Take.{takeOf};
@@ -28,23 +26,18 @@ pub extern "C" fn thayarqo_ring_encode(out: &mut [u8], event: RingNumbers) -> u8
     DONE
 }
 
-fn decoded(bytes: &[u8], contact_limit: u32) -> Decoded
-    ensures { λ r. ⌜ r ≡ decodedOf (now (bytes .entry)) «contact_limit» ⌝ }
-{
-    if bytes.len() != EVENT_LENGTH {
-        return Decoded::Refused(INVALID);
-    }
-    if !kbdif_page::is_contact_limit(contact_limit) {
-        return Decoded::Refused(INVALID);
-    }
-    kbdif_decode::decode(bytes, contact_limit)
-}
-
 #[no_mangle]
 pub extern "C" fn thayarqo_ring_decode(bytes: &[u8], contact_limit: u32) -> FoundNumbers
     ensures { λ r. ⌜ r ≡ foundOf (decodedOf (now (bytes .entry)) «contact_limit») ⌝ }
 {
-    kbdif_numbers::found_of(decoded(bytes, contact_limit))
+    if bytes.len() != EVENT_LENGTH {
+        return kbdif_numbers::refused(INVALID);
+    }
+    if !kbdif_page::is_contact_limit(contact_limit) {
+        return kbdif_numbers::refused(INVALID);
+    }
+    let form = kbdif_decode::form_of(bytes, contact_limit);
+    kbdif_numbers::found_as(form, bytes)
 }
 
 #[no_mangle]
@@ -69,17 +62,9 @@ pub extern "C" fn thayarqo_ring_take(
     contact_limit: u32,
 ) -> FoundNumbers
     ensures { λ r. ⌜ (let taken = takeOf (now (page .entry)) (now («in_cons» .entry)) «contact_limit» in
-        (r ≡ foundOf (taken .result .found)) × (now («in_cons» .exit) ≡ taken .result .«in_cons») × (now (page .exit) ≡ taken .page)) ⌝ }
+        (r ≡ foundOf (taken .found)) × (now («in_cons» .exit) ≡ taken .inCons) × (now (page .exit) ≡ taken .page)) ⌝ }
 {
-    let index = *in_cons;
-    let answer = kbdif::take_refusal(&page[..], index, contact_limit);
-    if answer != DONE {
-        return kbdif_numbers::refused(answer);
-    }
-    let at = kbdif_page::event_place(index);
-    // The index moves before the event is read, so that the result isn't held meanwhile.
-    let next = kbdif_page::next_index(index);
-    words::write_u32(page, IN_CONS, next);
-    *in_cons = next;
-    kbdif_found::found_at(&page[at..at + EVENT_LENGTH], contact_limit)
+    let taken = kbdif::take(page, *in_cons, contact_limit);
+    *in_cons = taken.in_cons;
+    taken.found
 }

@@ -1,5 +1,9 @@
-pub mod Answer
+pub mod Pieces
+pub mod Reserved
+pub mod Lookup
 pub mod Layout
+pub mod Answer
+pub mod Judged
 pub mod Form
 pub mod Encoded
 pub mod Decoded

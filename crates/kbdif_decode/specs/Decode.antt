@@ -10,13 +10,11 @@ use Rattle.answers.specs.Answers.{done, malformed}
 use Rattle.answers.specs.Refusals.{firstRefusal}
 use Rattle.words.specs.Words.{u16At, u32At}
 use Rattle.signed.specs.Signed.{fromBits}
-use Rattle.kbdif_decode.specs.declared.Decoded.{Decoded}
-use Rattle.kbdif_decode.specs.declared.Decoded.the-variants.{Event, Refused}
 use Rattle.kbdif_events.specs.declared.RingEvent.{RingEvent}
 use Rattle.kbdif_events.specs.declared.RingEvent.the-variants.{Motion, Key, Pos, TouchDown, TouchUp, TouchMotion, TouchSyn, TouchShape, TouchOrient, Unknown}
 use Rattle.kbdif_events.specs.Types.{XENKBD-TYPE-MOTION, XENKBD-TYPE-KEY, XENKBD-TYPE-POS, XENKBD-TYPE-MTOUCH, XENKBD-MT-EV-DOWN, XENKBD-MT-EV-UP, XENKBD-MT-EV-MOTION, XENKBD-MT-EV-SYN, XENKBD-MT-EV-SHAPE, XENKBD-MT-EV-ORIENT}
 use Rattle.kbdif_events.specs.Event.{layoutOf, contactOf, known}
-use Rattle.kbdif_reserved.specs.Reserved.{zeroOutside}
+use Rattle.kbdif_decode.specs.Reserved.{zeroOutside}
 
 -- The signed number that begins at a byte.
 abbrev pub i32At : List ℕ → ℕ → ℤ
@@ -82,6 +80,11 @@ eventRefusals bytes contactLimit =
     ∷ (pressedAboveOne bytes, malformed)
     ∷ (leb contactLimit (contactOf (eventAt bytes)), malformed)
     ∷ []
+
+-- What 40 bytes hold: an event, unknown or not, or the number that refuses them.
+pub data Decoded : Type 0 where
+  Event : RingEvent → Decoded
+  Refused : ℕ → Decoded
 
 -- An answer that holds an event is 0, a refusal its own number.
 abbrev pub numberOf : Decoded → ℕ

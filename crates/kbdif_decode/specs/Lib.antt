@@ -1,1 +1,3 @@
+pub mod Reserved
 pub mod Decode
+pub mod Form

@@ -7,9 +7,7 @@ use lib.ListN.{length}
 use borrow.Author.Tests.{ne-eqb}
 use Rattle.answers.specs.Answers.{done}
 use Rattle.kbdif_events.specs.declared.RingEvent.{RingEvent}
-use Rattle.kbdif_decode.specs.Decode.{eventAt}
-use Rattle.kbdif_decode.specs.declared.Decoded.{Decoded}
-use Rattle.kbdif_decode.specs.declared.Decoded.the-variants.{Event, Refused}
+use Rattle.kbdif_decode.specs.Decode.{Decoded, Event, Refused, eventAt}
 use Rattle.kbdif_order.specs.Order.{Entry, put, took, eventsPut, eventsTaken, isNothingToRead, endsWithNothingToRead, isSound, allSound}
 
 -- a log, from a ring in which so many events wait: what is taken, and then what waits, is what waited, and then what is put

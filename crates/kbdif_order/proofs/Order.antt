@@ -7,8 +7,7 @@ use native.Mathlib.Decide.{ℕ-discrete}
 use lib.ListN.{length}
 use Rattle.answers.specs.Answers.{done}
 use Rattle.kbdif_events.specs.declared.RingEvent.{RingEvent}
-use Rattle.kbdif_decode.specs.Decode.{eventAt}
-use Rattle.kbdif_decode.specs.declared.Decoded.the-variants.{Event, Refused}
+use Rattle.kbdif_decode.specs.Decode.{Event, Refused, eventAt}
 use Rattle.kbdif_page.specs.Page.{eventBytesAt}
 use Rattle.kbdif_order.specs.Order.{Call, putting, taking, Ring, fresh, after, Entry, took, entryOf, logOf, eventsPut, eventsTaken, isNothingToRead, Order}
 use Rattle.kbdif_order.proofs.Log.{Run, nothing, put-count, put-logged, refused-count, refused-logged, take-count, take-logged, idle-logged}

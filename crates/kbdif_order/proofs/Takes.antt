@@ -11,9 +11,7 @@ use borrow.Author.Tests.{eq-eqb, ne-eqb, le-ltb}
 use Rattle.answers.specs.Answers.{invalid, malformed, badIndex, nothingToRead}
 use Rattle.answers.specs.Refusals.{firstRefusal}
 use Rattle.answers.proofs.Laws.{passed, refused}
-use Rattle.kbdif_decode.specs.Decode.{eventAt, eventRefusals, answered}
-use Rattle.kbdif_decode.specs.declared.Decoded.{Decoded}
-use Rattle.kbdif_decode.specs.declared.Decoded.the-variants.{Event, Refused}
+use Rattle.kbdif_decode.specs.Decode.{Decoded, Event, Refused, eventAt, eventRefusals, answered}
 use Rattle.kbdif_page.specs.Page.{pageLength, ringLength, inProdOf, withInCons, nextIndex, distance, eventBytesAt, isContactLimit}
 use Rattle.kbdif_page.proofs.Laws.Page.{cons-length, cons-moved, cons-prod, cons-event}
 use Rattle.kbdif.specs.Take.{takeNumber, foundBy, takeAnswered}

@@ -14,9 +14,7 @@ use lib.Dec.{eqb}
 use lib.ListN.{length, replicate}
 use Rattle.answers.specs.Answers.{done, malformed, badIndex, nothingToRead}
 use Rattle.kbdif_events.specs.declared.RingEvent.{RingEvent}
-use Rattle.kbdif_decode.specs.Decode.{eventAt}
-use Rattle.kbdif_decode.specs.declared.Decoded.{Decoded}
-use Rattle.kbdif_decode.specs.declared.Decoded.the-variants.{Event, Refused}
+use Rattle.kbdif_decode.specs.Decode.{Decoded, Event, Refused, eventAt}
 use Rattle.kbdif_page.specs.Page.{pageLength}
 use Rattle.kbdif.specs.Put.{putOf}
 use Rattle.kbdif.specs.Take.{takeOf}
@@ -47,7 +45,7 @@ after contactLimit ring (putting event) = record {
 after contactLimit ring taking = record {
   page = takeOf (ring .page) (ring .inCons) contactLimit .page;
   inProd = ring .inProd;
-  inCons = takeOf (ring .page) (ring .inCons) contactLimit .result .«in_cons»;
+  inCons = takeOf (ring .page) (ring .inCons) contactLimit .inCons;
 }
 
 -- ---- logs, of arguments and answers only
@@ -58,7 +56,7 @@ pub data Entry : Type 0 where
 
 abbrev pub entryOf : ℕ → Ring → Call → Entry
 entryOf contactLimit ring (putting event) = put event (putOf (ring .page) (ring .inProd) contactLimit event .result .answer)
-entryOf contactLimit ring taking = took (takeOf (ring .page) (ring .inCons) contactLimit .result .found)
+entryOf contactLimit ring taking = took (takeOf (ring .page) (ring .inCons) contactLimit .found)
 
 unfoldable pub logOf : ℕ → Ring → List Call → List Entry
 logOf contactLimit ring [] = []

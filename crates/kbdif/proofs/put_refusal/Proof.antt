@@ -1,6 +1,7 @@
 use borrow.Author.Tests.{not-false}
 use mathlib.Core.Path.{sym, _∙_}
-use Rattle.kbdif_page.proofs.Laws.Page.{limit-positive}
+use Rattle.kbdif_page.proofs.Laws.Page.{limit-positive, limit-small}
+use native.Mathlib.Omega.{arith}
 use borrow.Author.Tests.{eq-eqb, ne-eqb}
 use Rattle.answers.specs.Refusals.{firstRefusal}
 use Rattle.kbdif.proofs.Laws.Put.{room-left, too-far}
@@ -24,7 +25,8 @@ unfolding firstRefusal
 returns-3 c = rw (eq-eqb _ _ (c .before .before .before .if1 .left), eq-eqb _ _ (c .before .before .if2 .left), ← c .before .is-contact-limit .ensures, c .if3 .taken)
 
 may-be-put-requires : tie.Need-may-be-put-requires
-may-be-put-requires c κs = (search needs, limit-positive _ (sym (c .before .is-contact-limit .ensures) ∙ not-false _ (c .if3 .left)))
+may-be-put-requires c κs = let allowed = sym (c .before .is-contact-limit .ensures) ∙ not-false _ (c .if3 .left) in
+    (search needs, limit-positive _ allowed, omega (arith, limit-small _ allowed))
 
 returns-4 : tie.Need-returns-4
 unfolding firstRefusal

@@ -9,24 +9,13 @@ use borrow.Author.Tests.{eq-eqb, ne-eqb}
 use Rattle.answers.specs.Answers.{done, malformed}
 use Rattle.answers.specs.Refusals.{firstRefusal}
 use Rattle.kbdif_events.specs.declared.RingEvent.{RingEvent}
-use Rattle.kbdif_decode.specs.declared.Decoded.the-variants.{Event, Refused}
-use Rattle.kbdif_decode.specs.Decode.{eventAt, eventRefusals, answered, numberOf, decoded}
+use Rattle.kbdif_decode.specs.Decode.{Event, Refused, eventAt, eventRefusals, answered, numberOf, decoded}
 
 pub answered-number : (number : ℕ) (event : RingEvent) → numberOf (answered number event) ≡ number
 answered-number number event = elim (ℕ-discrete number done) [
   | yes e ↦ rw (eq-eqb number done e) (sym e)
   | no n ↦ rw (ne-eqb number done n)
 ]
-
--- decode's two ways out
-module _ (bytes : List ℕ) (contactLimit : ℕ) where
-  pub refusal-answered : firstRefusal (eventRefusals bytes contactLimit) ≡ malformed
-      → (malformed ≡ firstRefusal (eventRefusals bytes contactLimit)) × (Refused malformed ≡ decoded bytes contactLimit)
-  refusal-answered e = (sym e, rw e)
-
-  pub event-answered : {event : RingEvent} → event ≡ eventAt bytes → firstRefusal (eventRefusals bytes contactLimit) ≡ done
-      → (done ≡ firstRefusal (eventRefusals bytes contactLimit)) × (Event event ≡ decoded bytes contactLimit)
-  event-answered same e = (sym e, rw (e, same))
 
 pub answered-event : (number : ℕ) (found : RingEvent) {event : RingEvent} → answered number found ≡ Event event → (number ≡ 0) × (found ≡ event)
 answered-event number found e = elim (ℕ-discrete number 0) [

@@ -15,29 +15,16 @@ use Rattle.answers.specs.Answers.{malformed}
 use Rattle.answers.specs.Refusals.{firstRefusal}
 use Rattle.answers.proofs.Laws.{none-holds}
 use Rattle.words.specs.Words.{u16At, u32At, u16Bytes, u32Bytes, IsBytes}
-use Rattle.kbdif_decode.specs.declared.Decoded.the-variants.{Event}
 use Rattle.kbdif_events.specs.declared.RingEvent.{RingEvent}
 use Rattle.kbdif_events.specs.declared.RingEvent.the-variants.{Unknown}
 use Rattle.kbdif_events.specs.Types.{XENKBD-TYPE-KEY, XENKBD-TYPE-MTOUCH}
 use Rattle.kbdif_events.specs.Event.{eventLength, between, layoutOf, eventBytes, i32Bytes, i16Bytes, known}
-use Rattle.kbdif_decode.specs.Decode.{i32At, i16At, lookup, touchAt, eventAt, extentOf, reservedIsZero, pressedAboveOne, eventRefusals, decoded}
+use Rattle.kbdif_decode.specs.Decode.{Event, i32At, i16At, lookup, touchAt, eventAt, extentOf, reservedIsZero, pressedAboveOne, eventRefusals, decoded}
 use Rattle.kbdif_decode.proofs.Laws.Answer.{answered-event}
 use Rattle.kbdif_decode.proofs.Laws.Layout.{ordered}
-use Rattle.kbdif_reserved.proofs.Laws.Pieces.{pieces, joined, one-byte, two-bytes, three-bytes, u16-bytes, u32-bytes}
-use Rattle.kbdif_reserved.proofs.Laws.Reserved.{zeros-outside}
-
--- what holds of every entry that a number can pick, and of the last thing, holds of what is picked
-Entries : (RingEvent → Type 0) → ℕ → List (ℕ × RingEvent) → Type 0
-Entries P number [] = Unit
-Entries P number ((key, event) ∷ rest) = (number ≡ key → P event) × Entries P number rest
-
-picked : (P : RingEvent → Type 0) (number : ℕ) (table : List (ℕ × RingEvent)) (other : RingEvent) → Entries P number table → P other → P (lookup number table other)
-unfolding lookup Entries
-picked P number [] other entries last = last
-picked P number ((key, event) ∷ rest) other entries last = elim (ℕ-discrete number key) [
-  | yes e ↦ subst (λ (b : Bool). P (cond b event (lookup number rest other))) (sym (eq-eqb number key e)) (entries .0 e)
-  | no n ↦ subst (λ (b : Bool). P (cond b event (lookup number rest other))) (sym (ne-eqb number key n)) (picked P number rest other (entries .1) last)
-]
+use Rattle.kbdif_decode.proofs.Laws.Lookup.{Entries, picked}
+use Rattle.kbdif_decode.proofs.Laws.Pieces.{pieces, joined, one-byte, two-bytes, three-bytes, u16-bytes, u32-bytes}
+use Rattle.kbdif_decode.proofs.Laws.Reserved.{zeros-outside}
 
 -- ---- bytes whose reserved ones are zero are those of an event that has their head and fields
 

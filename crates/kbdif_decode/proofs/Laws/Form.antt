@@ -1,205 +1,186 @@
--- What is decoded of an event, by the tests of its form.
-use Prim.Native.Nat.{ℕ, zero, suc, _%_, _≤_, _<_}
+-- The form of what is decoded, by the numbers that are compared to tell it.
+use Prim.Native.Nat.{ℕ, zero, suc, _*_, _%_, _≤_, _<_}
 use mathlib.Core.Path.{_≡_, refl, sym, ap, _∙_}
 use mathlib.Core.Logic.{_≢_, _⊎_, inl, inr}
-use mathlib.Core.Bool.{Bool, true, false, not, _&&_, cond, and-true}
-use mathlib.Core.List.{List, [], _∷_}
+use mathlib.Core.Bool.{Bool, true, false, _&&_, cond, and-true, and-false}
+use mathlib.Core.List.{List}
 use native.Mathlib.Omega.{arith}
-use native.Mathlib.Decide.{decLt}
 use lib.Dec.{leb, ltb, eqb}
-use lib.ListN.{getD}
-use borrow.Author.Tests.{ne-eqb, lt-leb, lt-ltb, le-leb, le-ltb}
-use Rattle.answers.specs.Answers.{malformed}
-use Rattle.answers.specs.Refusals.{firstRefusal}
+use lib.ListN.{length, getD}
+use Rattle.words.specs.Words.{u32At, IsBytes}
 use Rattle.kbdif_events.specs.declared.RingEvent.{RingEvent}
 use Rattle.kbdif_events.specs.declared.RingEvent.the-variants.{Motion, Key, Pos, TouchDown, TouchUp, TouchMotion, TouchSyn, TouchShape, TouchOrient, Unknown}
-use Rattle.words.specs.Words.{u32At}
 use Rattle.kbdif_events.specs.Types.{XENKBD-TYPE-MOTION, XENKBD-TYPE-KEY, XENKBD-TYPE-POS, XENKBD-TYPE-MTOUCH, XENKBD-MT-EV-DOWN, XENKBD-MT-EV-UP, XENKBD-MT-EV-MOTION, XENKBD-MT-EV-SYN, XENKBD-MT-EV-SHAPE, XENKBD-MT-EV-ORIENT}
-use Rattle.kbdif_events.specs.Event.{layoutOf, contactOf, known}
-use Rattle.kbdif_reserved.specs.Reserved.{allZero, zeroOutside}
-use Rattle.kbdif_decode.specs.declared.Decoded.{Decoded}
-use Rattle.kbdif_decode.specs.declared.Decoded.the-variants.{Event, Refused}
-use Rattle.kbdif_decode.specs.Decode.{i32At, i16At, lookup, touchAt, eventAt, extentOf, reservedIsZero, pressedAboveOne, answered, decoded, mayBePut}
+use Rattle.kbdif_events.specs.Event.{eventLength, between}
+use Rattle.kbdif_decode.specs.Reserved.{u64At, allZero, zeroOutside}
+use Rattle.kbdif_decode.specs.Decode.{Decoded, Event, Refused, lookup, eventAt, decoded, mayBePut}
+use Rattle.kbdif_decode.specs.Form.{eventForm, formOf}
+use Rattle.kbdif_decode.specs.declared.Form.{Form}
+use Rattle.kbdif_decode.specs.declared.Form.the-variants.{Malformed, UnknownType, Pointer, KeyPress, Place, Contact, Axes, Orientation}
+use Rattle.kbdif_decode.proofs.Laws.Judged.{judged, motion-judged, position-judged, key-judged, unknown-found, down-judged, up-judged, touch-motion-judged, syn-judged, shape-judged, orientation-judged}
+use Rattle.kbdif_decode.proofs.Laws.Reserved.{tailClear, no-fields, one-half, pointer-clear, key-clear, touch-clear}
 
--- an event, or 9
-abbrev pub judged : Bool → RingEvent → Decoded
-judged fine event = cond fine (Event event) (Refused malformed)
+-- a form, or malformed
+unfoldable pub told : Bool → Form → Form
+told fine form = cond fine form Malformed
 
-verdict : (clear pressed beyond : Bool) (event : RingEvent)
-    → answered (firstRefusal ((not clear, malformed) ∷ (pressed, malformed) ∷ (beyond, malformed) ∷ [])) event ≡ judged (clear && (not pressed && not beyond)) event
-unfolding firstRefusal
-verdict false pressed beyond event = refl
-verdict true true beyond event = refl
-verdict true false true event = refl
-verdict true false false event = refl
+judged-form : (fine : Bool) (event : RingEvent) {found : Decoded} → found ≡ judged fine event → formOf found ≡ told fine (eventForm event)
+unfolding judged told
+judged-form true event e = ap formOf e
+judged-form false event e = ap formOf e
 
--- two tests, each the other's opposite
-above : (a b : ℕ) → not (ltb a b) ≡ leb b a
-above a b = elim (decLt a b) [
-  | yes h ↦ rw (lt-ltb a b h, lt-leb b a h)
-  | no h ↦ rw (le-ltb a b (omega arith), le-leb b a (omega arith))
-]
+-- what may be put, by its form
+abbrev pub putForm : Form → Bool
+putForm Malformed = false
+putForm UnknownType = false
+putForm Pointer = true
+putForm KeyPress = true
+putForm Place = true
+putForm Contact = true
+putForm Axes = true
+putForm Orientation = true
 
-below : (a b : ℕ) → not (leb b a) ≡ ltb a b
-below a b = elim (decLt a b) [
-  | yes h ↦ rw (lt-ltb a b h, lt-leb b a h)
-  | no h ↦ rw (le-ltb a b (omega arith), le-leb b a (omega arith))
-]
+pub put-told : (found : Decoded) {form : Form} → form ≡ formOf found → putForm form ≡ mayBePut found
+put-told (Refused number) e = ap putForm e
+put-told (Event (Motion x y z)) e = ap putForm e
+put-told (Event (Key pressed keycode)) e = ap putForm e
+put-told (Event (Pos x y wheel)) e = ap putForm e
+put-told (Event (TouchDown contact x y)) e = ap putForm e
+put-told (Event (TouchUp contact)) e = ap putForm e
+put-told (Event (TouchMotion contact x y)) e = ap putForm e
+put-told (Event (TouchSyn contact)) e = ap putForm e
+put-told (Event (TouchShape contact major minor)) e = ap putForm e
+put-told (Event (TouchOrient contact orientation)) e = ap putForm e
+put-told (Event Unknown) e = ap putForm e
 
--- what is judged fine and known may be put
-pub put-judged : (fine : Bool) (event : RingEvent) {found : Decoded} → known event ≡ true → found ≡ judged fine event → fine ≡ mayBePut found
-put-judged true event sure e = sym (ap mayBePut e ∙ sure)
-put-judged false event sure e = sym (ap mayBePut e)
+-- where the first or the last of three tests fails, so do all
+spoiled : (first middle last : Bool) (form : Form) → (first && last) ≡ false → told (first && (middle && last)) form ≡ Malformed
+unfolding told
+spoiled false middle last form e = refl
+spoiled true true last form e = rw e
+spoiled true false last form e = refl
 
--- a number past a key isn't the key
-past : (number key : ℕ) → key < number → eqb number key ≡ false
-past number key high = ne-eqb number key (λ e. omega arith)
+-- ---- which subtype and which type it can be
 
--- the subtypes below the last one: the odd ones have no fields
-pub bare-subtype : (subtype : ℕ) → subtype ≤ XENKBD-MT-EV-ORIENT → subtype ≢ XENKBD-MT-EV-ORIENT → subtype % 2 ≡ 1
-    → (subtype ≡ XENKBD-MT-EV-UP) ⊎ (subtype ≡ XENKBD-MT-EV-SYN)
-bare-subtype zero low other odd = absurd (omega arith)
-bare-subtype (suc zero) low other odd = inl refl
-bare-subtype (suc (suc zero)) low other odd = absurd (omega arith)
-bare-subtype (suc (suc (suc zero))) low other odd = inr refl
-bare-subtype (suc (suc (suc (suc zero)))) low other odd = absurd (omega arith)
-bare-subtype (suc (suc (suc (suc (suc zero))))) low other odd = absurd (other refl)
-bare-subtype (suc (suc (suc (suc (suc (suc rest)))))) low other odd = absurd (omega arith)
+odd-subtype : (subtype : ℕ) → subtype < XENKBD-MT-EV-SHAPE → subtype % 2 ≡ 1 → (subtype ≡ XENKBD-MT-EV-UP) ⊎ (subtype ≡ XENKBD-MT-EV-SYN)
+odd-subtype zero low odd = absurd (omega arith)
+odd-subtype (suc zero) low odd = inl refl
+odd-subtype (suc (suc zero)) low odd = absurd (omega arith)
+odd-subtype (suc (suc (suc zero))) low odd = inr refl
+odd-subtype (suc (suc (suc (suc rest)))) low odd = absurd (omega arith)
 
-pub field-subtype : (subtype : ℕ) → subtype ≤ XENKBD-MT-EV-ORIENT → subtype ≢ XENKBD-MT-EV-ORIENT → subtype % 2 ≢ 1
-    → (subtype ≡ XENKBD-MT-EV-DOWN) ⊎ ((subtype ≡ XENKBD-MT-EV-MOTION) ⊎ (subtype ≡ XENKBD-MT-EV-SHAPE))
-field-subtype zero low other even = inl refl
-field-subtype (suc zero) low other even = absurd (even refl)
-field-subtype (suc (suc zero)) low other even = inr (inl refl)
-field-subtype (suc (suc (suc zero))) low other even = absurd (even refl)
-field-subtype (suc (suc (suc (suc zero)))) low other even = inr (inr refl)
-field-subtype (suc (suc (suc (suc (suc zero))))) low other even = absurd (other refl)
-field-subtype (suc (suc (suc (suc (suc (suc rest)))))) low other even = absurd (omega arith)
+even-subtype : (subtype : ℕ) → subtype < XENKBD-MT-EV-SHAPE → subtype % 2 ≢ 1 → (subtype ≡ XENKBD-MT-EV-DOWN) ⊎ (subtype ≡ XENKBD-MT-EV-MOTION)
+even-subtype zero low even = inl refl
+even-subtype (suc zero) low even = absurd (even refl)
+even-subtype (suc (suc zero)) low even = inr refl
+even-subtype (suc (suc (suc zero))) low even = absurd (even refl)
+even-subtype (suc (suc (suc (suc rest)))) low even = absurd (omega arith)
 
-module _ (bytes : List ℕ) (contactLimit : ℕ) where
-  -- pressed and the contact
-  abbrev allowedAs : RingEvent → Bool
-  allowedAs event = not (pressedAboveOne bytes) && not (leb contactLimit (contactOf event))
+-- the types of events that are no touches
+pub data OtherType (kind : ℕ) : Type 0 where
+  pointer : (kind ≡ XENKBD-TYPE-MOTION) ⊎ (kind ≡ XENKBD-TYPE-POS) → OtherType kind
+  key : kind ≡ XENKBD-TYPE-KEY → OtherType kind
 
-  abbrev pub fine : Bool
-  fine = reservedIsZero bytes (eventAt bytes) && allowedAs (eventAt bytes)
+pub other-type : (kind : ℕ) → kind ≤ XENKBD-TYPE-POS → kind ≢ 0 → kind ≢ 2 → OtherType kind
+other-type zero low some listed = absurd (some refl)
+other-type (suc zero) low some listed = pointer (inl refl)
+other-type (suc (suc zero)) low some listed = absurd (listed refl)
+other-type (suc (suc (suc zero))) low some listed = key refl
+other-type (suc (suc (suc (suc zero)))) low some listed = pointer (inr refl)
+other-type (suc (suc (suc (suc (suc rest))))) low some listed = absurd (omega arith)
 
-  -- what is decoded is the event or 9
-  pub decoded-judged : decoded bytes contactLimit ≡ judged fine (eventAt bytes)
-  decoded-judged = verdict (reservedIsZero bytes (eventAt bytes)) (pressedAboveOne bytes) (leb contactLimit (contactOf (eventAt bytes))) (eventAt bytes)
+pub pointer-type : {kind : ℕ} → OtherType kind → kind ≢ XENKBD-TYPE-KEY → (kind ≡ XENKBD-TYPE-MOTION) ⊎ (kind ≡ XENKBD-TYPE-POS)
+pointer-type (pointer is) other = is
+pointer-type (key is) other = absurd (other is)
 
-  formed : {event : RingEvent} {clear allowed : Bool} → eventAt bytes ≡ event → clear ≡ reservedIsZero bytes event → allowedAs event ≡ allowed
-      → decoded bytes contactLimit ≡ judged (clear && allowed) event
-  formed same e f = decoded-judged ∙ rw (same, f, ← e)
+-- what form_of is lent
+pub record Lent (bytes : List ℕ) (contactLimit : ℕ) : Type 0 where
+  pub size : length bytes ≡ eventLength
+  pub are-bytes : IsBytes bytes
+  pub some : 1 ≤ contactLimit
+  pub small : contactLimit ≤ 256
 
-  -- ---- no touch
+module _ {bytes : List ℕ} {contactLimit : ℕ} (lent : Lent bytes contactLimit) where
+  -- types 0 and 2
+  pub no-type : {kind : ℕ} → getD bytes 0 0 ≡ kind → (kind ≡ 0) ⊎ (kind ≡ 2) → UnknownType ≡ formOf (decoded bytes contactLimit)
+  unfolding eventAt lookup
+  no-type is (inl none) = sym (ap formOf (unknown-found bytes contactLimit (lent .some) (λ three. omega arith) (rw (is, none))))
+  no-type is (inr two) = sym (ap formOf (unknown-found bytes contactLimit (lent .some) (λ three. omega arith) (rw (is, two))))
 
-  module _ (some : 1 ≤ contactLimit) where
-    none-to-allow : (event : RingEvent) → (getD bytes 0 0 ≡ XENKBD-TYPE-KEY → ⊥) → contactOf event ≡ 0 → allowedAs event ≡ true
-    none-to-allow event other none = rw (ne-eqb (getD bytes 0 0) XENKBD-TYPE-KEY other, none, lt-leb contactLimit 0 some)
+  abbrev clearTail : Bool
+  clearTail = tailClear bytes (lent .size)
 
-    other-formed : {event : RingEvent} {clear : Bool} → (getD bytes 0 0 ≡ XENKBD-TYPE-KEY → ⊥) → contactOf event ≡ 0 → eventAt bytes ≡ event → clear ≡ reservedIsZero bytes event
-        → decoded bytes contactLimit ≡ judged clear event
-    other-formed {event} {clear} other none same e =
-        formed same e (none-to-allow event other none) ∙ ap (λ (fine : Bool). judged fine event) (and-true clear)
+  pub pointer-form : (getD bytes 0 0 ≡ XENKBD-TYPE-MOTION) ⊎ (getD bytes 0 0 ≡ XENKBD-TYPE-POS)
+      → formOf (decoded bytes contactLimit) ≡ told (ltb (u32At bytes 0) 256 && clearTail) Pointer
+  pointer-form (inl motion) = judged-form _ _ (motion-judged bytes contactLimit (lent .some) motion (sym (pointer-clear bytes (lent .size) (lent .are-bytes))))
+  pointer-form (inr position) = judged-form _ _ (position-judged bytes contactLimit (lent .some) position (sym (pointer-clear bytes (lent .size) (lent .are-bytes))))
 
-    pub motion-judged : {clear : Bool} → getD bytes 0 0 ≡ XENKBD-TYPE-MOTION → clear ≡ zeroOutside bytes 1 4 16
-        → decoded bytes contactLimit ≡ judged clear (Motion (i32At bytes 4) (i32At bytes 8) (i32At bytes 12))
-    unfolding eventAt lookup reservedIsZero extentOf layoutOf
-    motion-judged kind e = other-formed (λ three. omega arith) refl (rw kind) e
+  pub key-form : getD bytes 0 0 ≡ XENKBD-TYPE-KEY
+      → formOf (decoded bytes contactLimit) ≡ told (ltb (u32At bytes 0) 512 && (eqb (u64At bytes 8) 0 && clearTail)) KeyPress
+  key-form kind = judged-form _ _ (key-judged bytes contactLimit (lent .some) kind refl) ∙ ap (λ (fine : Bool). told fine KeyPress) (key-clear bytes (lent .size) (lent .are-bytes))
 
-    pub position-judged : {clear : Bool} → getD bytes 0 0 ≡ XENKBD-TYPE-POS → clear ≡ zeroOutside bytes 1 4 16
-        → decoded bytes contactLimit ≡ judged clear (Pos (i32At bytes 4) (i32At bytes 8) (i32At bytes 12))
-    unfolding eventAt lookup reservedIsZero extentOf layoutOf
-    position-judged kind e = other-formed (λ three. omega arith) refl (rw kind) e
-
-    pub key-judged : {clear : Bool} → getD bytes 0 0 ≡ XENKBD-TYPE-KEY → clear ≡ zeroOutside bytes 2 4 8
-        → decoded bytes contactLimit ≡ judged (clear && leb (getD bytes 1 0) 1) (Key (eqb (getD bytes 1 0) 1) (u32At bytes 4))
-    unfolding eventAt lookup reservedIsZero extentOf layoutOf
-    key-judged kind e = formed (rw kind) e (rw (kind, lt-leb contactLimit 0 some, above 1 (getD bytes 1 0)) (and-true (leb (getD bytes 1 0) 1)))
-
-    pub unknown-found : (getD bytes 0 0 ≡ XENKBD-TYPE-KEY → ⊥) → eventAt bytes ≡ Unknown → decoded bytes contactLimit ≡ Event Unknown
-    unfolding reservedIsZero extentOf layoutOf allZero
-    unknown-found other same = other-formed {clear = true} other refl same refl
-
-    -- past the types below that of a touch
-    pub other-found : XENKBD-TYPE-POS < getD bytes 0 0 → getD bytes 0 0 ≢ XENKBD-TYPE-MTOUCH → decoded bytes contactLimit ≡ Event Unknown
-    unfolding eventAt lookup
-    other-found high other =
-        unknown-found (λ three. omega arith) (rw (
-          past (getD bytes 0 0) XENKBD-TYPE-MOTION (omega arith),
-          past (getD bytes 0 0) XENKBD-TYPE-KEY (omega arith),
-          past (getD bytes 0 0) XENKBD-TYPE-POS high,
-          ne-eqb (getD bytes 0 0) XENKBD-TYPE-MTOUCH other,
-        ))
-
-  -- ---- touches
+  pub other-spoiled : OtherType (getD bytes 0 0) → clearTail ≡ false → formOf (decoded bytes contactLimit) ≡ Malformed
+  other-spoiled (pointer kind) e = pointer-form kind ∙ spoiled (ltb (u32At bytes 0) 256) true clearTail Pointer (rw e (and-false (ltb (u32At bytes 0) 256)))
+  other-spoiled (key kind) e =
+      key-form kind
+      ∙ spoiled (ltb (u32At bytes 0) 512) (eqb (u64At bytes 8) 0) clearTail KeyPress (rw e (and-false (ltb (u32At bytes 0) 512)))
 
   module _ (kind : getD bytes 0 0 ≡ XENKBD-TYPE-MTOUCH) where
-    touch-event : {event : RingEvent} → touchAt bytes ≡ event → eventAt bytes ≡ event
-    unfolding eventAt lookup
-    touch-event same = rw kind same
+    abbrev clearHead : Bool
+    clearHead = ltb (u64At bytes 0) (contactLimit * 65536)
 
-    touch-formed : {event : RingEvent} {clear : Bool} → contactOf event ≡ getD bytes 2 0 → touchAt bytes ≡ event → clear ≡ reservedIsZero bytes event
-        → decoded bytes contactLimit ≡ judged (clear && ltb (getD bytes 2 0) contactLimit) event
-    touch-formed contact same e = formed (touch-event same) e (rw (kind, contact) (below (getD bytes 2 0) contactLimit))
+    touch-told : (end : ℕ) (event : RingEvent) → end ≤ 16
+        → decoded bytes contactLimit ≡ judged (zeroOutside bytes 3 8 end && ltb (getD bytes 2 0) contactLimit) event
+        → formOf (decoded bytes contactLimit) ≡ told (clearHead && (allZero (between bytes end 16) && clearTail)) (eventForm event)
+    touch-told end event inside e =
+        judged-form _ event e
+        ∙ ap (λ (fine : Bool). told fine (eventForm event)) (touch-clear bytes (lent .size) (lent .are-bytes) contactLimit end (lent .small) inside)
 
-    pub down-judged : {clear : Bool} → getD bytes 1 0 ≡ XENKBD-MT-EV-DOWN → clear ≡ zeroOutside bytes 3 8 16
-        → decoded bytes contactLimit ≡ judged (clear && ltb (getD bytes 2 0) contactLimit) (TouchDown (getD bytes 2 0) (i32At bytes 8) (i32At bytes 12))
-    unfolding touchAt lookup reservedIsZero extentOf layoutOf
-    down-judged subtype e = touch-formed refl (rw subtype) e
+    axes-told : getD bytes 1 0 ≡ XENKBD-MT-EV-SHAPE → formOf (decoded bytes contactLimit) ≡ told (clearHead && clearTail) Axes
+    unfolding allZero
+    axes-told is = touch-told 16 _ (omega arith) (shape-judged bytes contactLimit kind is refl)
 
-    pub up-judged : {clear : Bool} → getD bytes 1 0 ≡ XENKBD-MT-EV-UP → clear ≡ zeroOutside bytes 3 8 8
-        → decoded bytes contactLimit ≡ judged (clear && ltb (getD bytes 2 0) contactLimit) (TouchUp (getD bytes 2 0))
-    unfolding touchAt lookup reservedIsZero extentOf layoutOf
-    up-judged subtype e = touch-formed refl (rw subtype) e
+    place-told : (getD bytes 1 0 ≡ XENKBD-MT-EV-DOWN) ⊎ (getD bytes 1 0 ≡ XENKBD-MT-EV-MOTION)
+        → formOf (decoded bytes contactLimit) ≡ told (clearHead && clearTail) Place
+    unfolding allZero
+    place-told (inl down) = touch-told 16 _ (omega arith) (down-judged bytes contactLimit kind down refl)
+    place-told (inr motion) = touch-told 16 _ (omega arith) (touch-motion-judged bytes contactLimit kind motion refl)
 
-    pub touch-motion-judged : {clear : Bool} → getD bytes 1 0 ≡ XENKBD-MT-EV-MOTION → clear ≡ zeroOutside bytes 3 8 16
-        → decoded bytes contactLimit ≡ judged (clear && ltb (getD bytes 2 0) contactLimit) (TouchMotion (getD bytes 2 0) (i32At bytes 8) (i32At bytes 12))
-    unfolding touchAt lookup reservedIsZero extentOf layoutOf
-    touch-motion-judged subtype e = touch-formed refl (rw subtype) e
+    contact-told : (getD bytes 1 0 ≡ XENKBD-MT-EV-UP) ⊎ (getD bytes 1 0 ≡ XENKBD-MT-EV-SYN)
+        → formOf (decoded bytes contactLimit) ≡ told (clearHead && (eqb (u64At bytes 8) 0 && clearTail)) Contact
+    contact-told (inl up) = rw (← no-fields bytes (lent .size)) (touch-told 8 _ (omega arith) (up-judged bytes contactLimit kind up refl))
+    contact-told (inr syn) = rw (← no-fields bytes (lent .size)) (touch-told 8 _ (omega arith) (syn-judged bytes contactLimit kind syn refl))
 
-    pub syn-judged : {clear : Bool} → getD bytes 1 0 ≡ XENKBD-MT-EV-SYN → clear ≡ zeroOutside bytes 3 8 8
-        → decoded bytes contactLimit ≡ judged (clear && ltb (getD bytes 2 0) contactLimit) (TouchSyn (getD bytes 2 0))
-    unfolding touchAt lookup reservedIsZero extentOf layoutOf
-    syn-judged subtype e = touch-formed refl (rw subtype) e
+    orientation-told : getD bytes 1 0 ≡ XENKBD-MT-EV-ORIENT
+        → formOf (decoded bytes contactLimit) ≡ told (clearHead && (ltb (u64At bytes 8) 65536 && clearTail)) Orientation
+    orientation-told is = rw (← one-half bytes (lent .size) (lent .are-bytes)) (touch-told 10 _ (omega arith) (orientation-judged bytes contactLimit kind is refl))
 
-    pub shape-judged : {clear : Bool} → getD bytes 1 0 ≡ XENKBD-MT-EV-SHAPE → clear ≡ zeroOutside bytes 3 8 16
-        → decoded bytes contactLimit ≡ judged (clear && ltb (getD bytes 2 0) contactLimit) (TouchShape (getD bytes 2 0) (u32At bytes 8) (u32At bytes 12))
-    unfolding touchAt lookup reservedIsZero extentOf layoutOf
-    shape-judged subtype e = touch-formed refl (rw subtype) e
+    -- ---- each way out of a touch
 
-    pub orientation-judged : {clear : Bool} → getD bytes 1 0 ≡ XENKBD-MT-EV-ORIENT → clear ≡ zeroOutside bytes 3 8 10
-        → decoded bytes contactLimit ≡ judged (clear && ltb (getD bytes 2 0) contactLimit) (TouchOrient (getD bytes 2 0) (i16At bytes 8))
-    unfolding touchAt lookup reservedIsZero extentOf layoutOf
-    orientation-judged subtype e = touch-formed refl (rw subtype) e
+    pub touch-spoiled : (subtype : ℕ) → getD bytes 1 0 ≡ subtype → subtype ≤ XENKBD-MT-EV-ORIENT → (clearHead && clearTail) ≡ false
+        → formOf (decoded bytes contactLimit) ≡ Malformed
+    touch-spoiled zero is low e = place-told (inl is) ∙ spoiled clearHead true clearTail Place e
+    touch-spoiled (suc zero) is low e = contact-told (inl is) ∙ spoiled clearHead (eqb (u64At bytes 8) 0) clearTail Contact e
+    touch-spoiled (suc (suc zero)) is low e = place-told (inr is) ∙ spoiled clearHead true clearTail Place e
+    touch-spoiled (suc (suc (suc zero))) is low e = contact-told (inr is) ∙ spoiled clearHead (eqb (u64At bytes 8) 0) clearTail Contact e
+    touch-spoiled (suc (suc (suc (suc zero)))) is low e = axes-told is ∙ spoiled clearHead true clearTail Axes e
+    touch-spoiled (suc (suc (suc (suc (suc zero))))) is low e = orientation-told is ∙ spoiled clearHead (ltb (u64At bytes 8) 65536) clearTail Orientation e
+    touch-spoiled (suc (suc (suc (suc (suc (suc rest)))))) is low e = absurd (omega arith)
 
-    -- past the last subtype
-    pub unknown-touch-found : 1 ≤ contactLimit → XENKBD-MT-EV-ORIENT < getD bytes 1 0 → decoded bytes contactLimit ≡ Event Unknown
-    unfolding touchAt lookup
-    unknown-touch-found some high =
-        unknown-found some (λ three. omega arith) (touch-event (rw (
-          past (getD bytes 1 0) XENKBD-MT-EV-DOWN (omega arith),
-          past (getD bytes 1 0) XENKBD-MT-EV-UP (omega arith),
-          past (getD bytes 1 0) XENKBD-MT-EV-MOTION (omega arith),
-          past (getD bytes 1 0) XENKBD-MT-EV-SYN (omega arith),
-          past (getD bytes 1 0) XENKBD-MT-EV-SHAPE (omega arith),
-          past (getD bytes 1 0) XENKBD-MT-EV-ORIENT high,
-        )))
+    module _ (head : clearHead ≡ true) (rest : clearTail ≡ true) where
+      pub axes-form : getD bytes 1 0 ≡ XENKBD-MT-EV-SHAPE → formOf (decoded bytes contactLimit) ≡ Axes
+      unfolding told
+      axes-form is = axes-told is ∙ rw (head, rest)
 
-    -- ---- what is judged alike
+      pub place-form : getD bytes 1 0 < XENKBD-MT-EV-SHAPE → getD bytes 1 0 % 2 ≢ 1 → formOf (decoded bytes contactLimit) ≡ Place
+      unfolding told
+      place-form low even = place-told (even-subtype (getD bytes 1 0) low even) ∙ rw (head, rest)
 
-    pub bare-put : {clear : Bool} → getD bytes 1 0 ≤ XENKBD-MT-EV-ORIENT → getD bytes 1 0 ≢ XENKBD-MT-EV-ORIENT → getD bytes 1 0 % 2 ≡ 1
-        → clear ≡ zeroOutside bytes 3 8 8 → (clear && ltb (getD bytes 2 0) contactLimit) ≡ mayBePut (decoded bytes contactLimit)
-    bare-put low other odd e = elim (bare-subtype (getD bytes 1 0) low other odd) [
-      | inl up ↦ put-judged _ _ refl (up-judged up e)
-      | inr syn ↦ put-judged _ _ refl (syn-judged syn e)
-    ]
+      pub contact-form : getD bytes 1 0 < XENKBD-MT-EV-SHAPE → getD bytes 1 0 % 2 ≡ 1
+          → formOf (decoded bytes contactLimit) ≡ cond (eqb (u64At bytes 8) 0) Contact Malformed
+      unfolding told
+      contact-form low odd = contact-told (odd-subtype (getD bytes 1 0) low odd) ∙ rw (head, rest, and-true (eqb (u64At bytes 8) 0))
 
-    pub touch-put : {clear : Bool} → getD bytes 1 0 ≤ XENKBD-MT-EV-ORIENT → getD bytes 1 0 ≢ XENKBD-MT-EV-ORIENT → getD bytes 1 0 % 2 ≢ 1
-        → clear ≡ zeroOutside bytes 3 8 16 → (clear && ltb (getD bytes 2 0) contactLimit) ≡ mayBePut (decoded bytes contactLimit)
-    touch-put low other even e = elim (field-subtype (getD bytes 1 0) low other even) [
-      | inl down ↦ put-judged _ _ refl (down-judged down e)
-      | inr (inl motion) ↦ put-judged _ _ refl (touch-motion-judged motion e)
-      | inr (inr shape) ↦ put-judged _ _ refl (shape-judged shape e)
-    ]
+      pub orientation-form : getD bytes 1 0 ≡ XENKBD-MT-EV-ORIENT → formOf (decoded bytes contactLimit) ≡ cond (ltb (u64At bytes 8) 65536) Orientation Malformed
+      unfolding told
+      orientation-form is = orientation-told is ∙ rw (head, rest, and-true (ltb (u64At bytes 8) 65536))

@@ -2,9 +2,7 @@
 use mathlib.Core.Path.{_≡_, refl}
 use Rattle.kbdif_events.specs.declared.RingEvent.{RingEvent}
 use Rattle.kbdif_events.specs.declared.RingEvent.the-variants.{Motion, Key, Pos, TouchDown, TouchUp, TouchMotion, TouchSyn, TouchShape, TouchOrient, Unknown}
-use Rattle.kbdif_decode.specs.Decode.{lookup, numberOf}
-use Rattle.kbdif_decode.specs.declared.Decoded.{Decoded}
-use Rattle.kbdif_decode.specs.declared.Decoded.the-variants.{Event, Refused}
+use Rattle.kbdif_decode.specs.Decode.{Decoded, Event, Refused, lookup, numberOf}
 use Rattle.kbdif_numbers.specs.Numbers.{numbersOf, touchOf, eventOf, foundOf}
 
 pub event-back : (event : RingEvent) → eventOf (numbersOf event) ≡ event

@@ -51,6 +51,10 @@ pub limit-positive : (limit : ℕ) → isContactLimit limit ≡ true → 1 ≤ l
 unfolding isContactLimit
 limit-positive limit h = leb-true 1 limit (and-eq-true-iff (leb 1 limit) (leb limit 32) .0 h .0)
 
+pub limit-small : (limit : ℕ) → isContactLimit limit ≡ true → limit ≤ 32
+unfolding isContactLimit
+limit-small limit h = leb-true limit 32 (and-eq-true-iff (leb 1 limit) (leb limit 32) .0 h .1)
+
 -- ---- places
 
 -- fewer than 51 events apart, one ends before the other begins
