@@ -2,8 +2,8 @@
 use Prim.Native.Nat.{ℕ, _+_, _-_, _≤_, _<_}
 use mathlib.Core.Path.{_≡_, ap, _∙_}
 use mathlib.Core.Logic.{_≢_}
-use mathlib.Core.Bool.{true, false, not}
-use mathlib.Core.List.{List, _++_}
+use mathlib.Core.Bool.{Bool, true, false, not}
+use mathlib.Core.List.{List, [], _∷_, _++_}
 use native.Mathlib.Omega.{arith}
 use native.Mathlib.Decide.{decLt}
 use lib.Dec.{eqb, ltb}
@@ -18,16 +18,26 @@ use Rattle.kbdif_decode.specs.Decode.{decoded, mayBePut}
 use Rattle.kbdif_page.specs.Page.{pageLength, ringLength, inConsOf, withInProd, nextIndex, distance, eventPlace, isContactLimit}
 use Rattle.kbdif.specs.Put.{putRefusals, putAnswered, putOf}
 
--- ---- the distance, by what a put tests of it
+-- ---- the last tests of a put, of the distance alone
 
-pub room-left : (used : ℕ) → used < ringLength → (ltb ringLength used ≡ false) × (eqb used ringLength ≡ false)
-room-left used few = (le-ltb ringLength used (omega arith), ne-eqb used ringLength (λ e. omega arith))
+abbrev pub roomRefusals : ℕ → List (Bool × ℕ)
+roomRefusals used = (ltb ringLength used, badIndex) ∷ (eqb used ringLength, noRoom) ∷ []
 
-pub too-far : (used : ℕ) → ringLength ≤ used → used ≢ ringLength → ltb ringLength used ≡ true
-too-far used many other = elim (decLt ringLength used) [
-  | yes h ↦ lt-ltb ringLength used h
-  | no h ↦ absurd (other (omega arith))
-]
+module _ {used number : ℕ} (is : number ≡ used) where
+  pub room-left : number < ringLength → firstRefusal (roomRefusals used) ≡ done
+  unfolding firstRefusal
+  room-left few = rw (le-ltb ringLength used (omega arith), ne-eqb used ringLength (λ e. omega arith))
+
+  pub full : number ≡ ringLength → firstRefusal (roomRefusals used) ≡ noRoom
+  unfolding firstRefusal
+  full e = rw (← is, e)
+
+  pub too-far : ringLength ≤ number → number ≢ ringLength → firstRefusal (roomRefusals used) ≡ badIndex
+  unfolding firstRefusal
+  too-far many other = elim (decLt ringLength used) [
+    | yes h ↦ rw (lt-ltb ringLength used h)
+    | no h ↦ absurd (other (omega arith))
+  ]
 
 module _ (page : List ℕ) (inProd contactLimit : ℕ) (event : List ℕ) where
   -- what is known of a put that isn't refused

@@ -25,6 +25,7 @@ module _ (bytes : List ℕ) (contactLimit : ℕ) {answer : FoundNumbers} where
     unfolding firstRefusal
     bad-limit n told = told ∙ rw (eq-eqb (length bytes) eventLength size, ← limit, n)
 
-    pub bytes-decoded : not allowed ≡ false → answer ≡ foundOf (decoded bytes contactLimit) → answer ≡ foundOf (decodedOf bytes contactLimit)
+    pub bytes-decoded : not allowed ≡ false → answer ≡ foundOf (decoded bytes contactLimit)
+        → answer ≡ foundOf (decodedOf bytes contactLimit)
     unfolding firstRefusal
     bytes-decoded y told = told ∙ rw (eq-eqb (length bytes) eventLength size, ← limit, y)

@@ -24,7 +24,8 @@ refused-requires-2 c κs = search needs
 
 returns-2 : tie.Need-returns-2
 returns-2 c = let a = c .before .before .before .before .before .args in
-    bad-limit (a .bytes .now) (a .contact-limit) (c .before .before .before .if1 .left) (c .before .before .is-contact-limit .ensures) (c .before .if2 .taken)
+    bad-limit (a .bytes .now) (a .contact-limit) (c .before .before .before .if1 .left) (c .before .before .is-contact-limit .ensures)
+    (c .before .if2 .taken)
     (c .refused2 .ensures)
 
 form-of-requires : tie.Need-form-of-requires
@@ -36,7 +37,8 @@ found-as-requires c κs = search needs
 
 returns-3 : tie.Need-returns-3
 returns-3 c = let a = c .before .before .before .before .before .before .args in
-    bytes-decoded (a .bytes .now) (a .contact-limit) (c .before .before .before .before .if1 .left) (c .before .before .before .is-contact-limit .ensures)
+    bytes-decoded (a .bytes .now) (a .contact-limit) (c .before .before .before .before .if1 .left)
+    (c .before .before .before .is-contact-limit .ensures)
     (c .before .before .if2 .left)
     (found-told (a .bytes .now) (a .contact-limit) (c .before .form-of .ensures) (c .found-as .ensures))
 

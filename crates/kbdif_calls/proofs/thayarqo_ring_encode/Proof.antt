@@ -1,3 +1,4 @@
+-- Each way out is a law of encode.
 use Rattle.kbdif_calls.proofs.Laws.Encode.{wrong-length, unknown, encoded}
 use borrow.Author.Needs.{needs}
 use Rattle.kbdif_calls.proofs.thayarqo_ring_encode.Statement.{statement}

@@ -1,3 +1,4 @@
+-- The call's parts are those of the rule's result.
 use Rattle.kbdif.specs.declared.Stored.{Stored}
 use mathlib.Core.Path.{ap}
 use borrow.Author.Needs.{needs}

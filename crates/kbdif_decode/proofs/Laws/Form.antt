@@ -69,7 +69,8 @@ odd-subtype (suc (suc zero)) low odd = absurd (omega arith)
 odd-subtype (suc (suc (suc zero))) low odd = inr refl
 odd-subtype (suc (suc (suc (suc rest)))) low odd = absurd (omega arith)
 
-even-subtype : (subtype : ℕ) → subtype < XENKBD-MT-EV-SHAPE → subtype % 2 ≢ 1 → (subtype ≡ XENKBD-MT-EV-DOWN) ⊎ (subtype ≡ XENKBD-MT-EV-MOTION)
+even-subtype : (subtype : ℕ) → subtype < XENKBD-MT-EV-SHAPE → subtype % 2 ≢ 1
+    → (subtype ≡ XENKBD-MT-EV-DOWN) ⊎ (subtype ≡ XENKBD-MT-EV-MOTION)
 even-subtype zero low even = inl refl
 even-subtype (suc zero) low even = absurd (even refl)
 even-subtype (suc (suc zero)) low even = inr refl
@@ -112,15 +113,21 @@ module _ {bytes : List ℕ} {contactLimit : ℕ} (lent : Lent bytes contactLimit
 
   pub pointer-form : (getD bytes 0 0 ≡ XENKBD-TYPE-MOTION) ⊎ (getD bytes 0 0 ≡ XENKBD-TYPE-POS)
       → formOf (decoded bytes contactLimit) ≡ told (ltb (u32At bytes 0) 256 && clearTail) Pointer
-  pointer-form (inl motion) = judged-form _ _ (motion-judged bytes contactLimit (lent .some) motion (sym (pointer-clear bytes (lent .size) (lent .are-bytes))))
-  pointer-form (inr position) = judged-form _ _ (position-judged bytes contactLimit (lent .some) position (sym (pointer-clear bytes (lent .size) (lent .are-bytes))))
+  pointer-form (inl motion) =
+      judged-form _ _ (motion-judged bytes contactLimit (lent .some) motion (sym (pointer-clear bytes (lent .size) (lent .are-bytes))))
+  pointer-form (inr position) =
+      judged-form _ _ (position-judged bytes contactLimit (lent .some) position (sym (pointer-clear bytes (lent .size) (lent .are-bytes))))
 
   pub key-form : getD bytes 0 0 ≡ XENKBD-TYPE-KEY
       → formOf (decoded bytes contactLimit) ≡ told (ltb (u32At bytes 0) 512 && (eqb (u64At bytes 8) 0 && clearTail)) KeyPress
-  key-form kind = judged-form _ _ (key-judged bytes contactLimit (lent .some) kind refl) ∙ ap (λ (fine : Bool). told fine KeyPress) (key-clear bytes (lent .size) (lent .are-bytes))
+  key-form kind =
+      judged-form _ _ (key-judged bytes contactLimit (lent .some) kind refl)
+      ∙ ap (λ (fine : Bool). told fine KeyPress) (key-clear bytes (lent .size) (lent .are-bytes))
 
   pub other-spoiled : OtherType (getD bytes 0 0) → clearTail ≡ false → formOf (decoded bytes contactLimit) ≡ Malformed
-  other-spoiled (pointer kind) e = pointer-form kind ∙ spoiled (ltb (u32At bytes 0) 256) true clearTail Pointer (rw e (and-false (ltb (u32At bytes 0) 256)))
+  other-spoiled (pointer kind) e =
+      pointer-form kind
+      ∙ spoiled (ltb (u32At bytes 0) 256) true clearTail Pointer (rw e (and-false (ltb (u32At bytes 0) 256)))
   other-spoiled (key kind) e =
       key-form kind
       ∙ spoiled (ltb (u32At bytes 0) 512) (eqb (u64At bytes 8) 0) clearTail KeyPress (rw e (and-false (ltb (u32At bytes 0) 512)))
@@ -134,7 +141,9 @@ module _ {bytes : List ℕ} {contactLimit : ℕ} (lent : Lent bytes contactLimit
         → formOf (decoded bytes contactLimit) ≡ told (clearHead && (allZero (between bytes end 16) && clearTail)) (eventForm event)
     touch-told end event inside e =
         judged-form _ event e
-        ∙ ap (λ (fine : Bool). told fine (eventForm event)) (touch-clear bytes (lent .size) (lent .are-bytes) contactLimit end (lent .small) inside)
+        ∙ ap (λ (fine : Bool). told fine (eventForm event)) (
+        touch-clear bytes (lent .size) (lent .are-bytes) contactLimit end (lent .small) inside
+        )
 
     axes-told : getD bytes 1 0 ≡ XENKBD-MT-EV-SHAPE → formOf (decoded bytes contactLimit) ≡ told (clearHead && clearTail) Axes
     unfolding allZero
@@ -149,11 +158,14 @@ module _ {bytes : List ℕ} {contactLimit : ℕ} (lent : Lent bytes contactLimit
     contact-told : (getD bytes 1 0 ≡ XENKBD-MT-EV-UP) ⊎ (getD bytes 1 0 ≡ XENKBD-MT-EV-SYN)
         → formOf (decoded bytes contactLimit) ≡ told (clearHead && (eqb (u64At bytes 8) 0 && clearTail)) Contact
     contact-told (inl up) = rw (← no-fields bytes (lent .size)) (touch-told 8 _ (omega arith) (up-judged bytes contactLimit kind up refl))
-    contact-told (inr syn) = rw (← no-fields bytes (lent .size)) (touch-told 8 _ (omega arith) (syn-judged bytes contactLimit kind syn refl))
+    contact-told (inr syn) =
+        rw (← no-fields bytes (lent .size)) (touch-told 8 _ (omega arith) (syn-judged bytes contactLimit kind syn refl))
 
     orientation-told : getD bytes 1 0 ≡ XENKBD-MT-EV-ORIENT
         → formOf (decoded bytes contactLimit) ≡ told (clearHead && (ltb (u64At bytes 8) 65536 && clearTail)) Orientation
-    orientation-told is = rw (← one-half bytes (lent .size) (lent .are-bytes)) (touch-told 10 _ (omega arith) (orientation-judged bytes contactLimit kind is refl))
+    orientation-told is =
+        rw (← one-half bytes (lent .size) (lent .are-bytes))
+        (touch-told 10 _ (omega arith) (orientation-judged bytes contactLimit kind is refl))
 
     -- ---- each way out of a touch
 
@@ -164,7 +176,8 @@ module _ {bytes : List ℕ} {contactLimit : ℕ} (lent : Lent bytes contactLimit
     touch-spoiled (suc (suc zero)) is low e = place-told (inr is) ∙ spoiled clearHead true clearTail Place e
     touch-spoiled (suc (suc (suc zero))) is low e = contact-told (inr is) ∙ spoiled clearHead (eqb (u64At bytes 8) 0) clearTail Contact e
     touch-spoiled (suc (suc (suc (suc zero)))) is low e = axes-told is ∙ spoiled clearHead true clearTail Axes e
-    touch-spoiled (suc (suc (suc (suc (suc zero))))) is low e = orientation-told is ∙ spoiled clearHead (ltb (u64At bytes 8) 65536) clearTail Orientation e
+    touch-spoiled (suc (suc (suc (suc (suc zero))))) is low e =
+        orientation-told is ∙ spoiled clearHead (ltb (u64At bytes 8) 65536) clearTail Orientation e
     touch-spoiled (suc (suc (suc (suc (suc (suc rest)))))) is low e = absurd (omega arith)
 
     module _ (head : clearHead ≡ true) (rest : clearTail ≡ true) where
@@ -181,6 +194,7 @@ module _ {bytes : List ℕ} {contactLimit : ℕ} (lent : Lent bytes contactLimit
       unfolding told
       contact-form low odd = contact-told (odd-subtype (getD bytes 1 0) low odd) ∙ rw (head, rest, and-true (eqb (u64At bytes 8) 0))
 
-      pub orientation-form : getD bytes 1 0 ≡ XENKBD-MT-EV-ORIENT → formOf (decoded bytes contactLimit) ≡ cond (ltb (u64At bytes 8) 65536) Orientation Malformed
+      pub orientation-form : getD bytes 1 0 ≡ XENKBD-MT-EV-ORIENT
+          → formOf (decoded bytes contactLimit) ≡ cond (ltb (u64At bytes 8) 65536) Orientation Malformed
       unfolding told
       orientation-form is = orientation-told is ∙ rw (head, rest, and-true (ltb (u64At bytes 8) 65536))

@@ -13,10 +13,14 @@ unfoldable pub Entries : (RingEvent → Type 0) → ℕ → List (ℕ × RingEve
 Entries P number [] = Unit
 Entries P number ((key, event) ∷ rest) = (number ≡ key → P event) × Entries P number rest
 
-pub picked : (P : RingEvent → Type 0) (number : ℕ) (table : List (ℕ × RingEvent)) (other : RingEvent) → Entries P number table → P other → P (lookup number table other)
+pub picked : (P : RingEvent → Type 0) (number : ℕ) (table : List (ℕ × RingEvent)) (other : RingEvent)
+    → Entries P number table → P other → P (lookup number table other)
 unfolding lookup Entries
 picked P number [] other entries last = last
 picked P number ((key, event) ∷ rest) other entries last = elim (ℕ-discrete number key) [
-  | yes e ↦ subst (λ (b : Bool). P (cond b event (lookup number rest other))) (sym (eq-eqb number key e)) (entries .0 e)
-  | no n ↦ subst (λ (b : Bool). P (cond b event (lookup number rest other))) (sym (ne-eqb number key n)) (picked P number rest other (entries .1) last)
+  | yes e ↦ subst picks (sym (eq-eqb number key e)) (entries .0 e)
+  | no n ↦ subst picks (sym (ne-eqb number key n)) (picked P number rest other (entries .1) last)
 ]
+  where
+    picks : Bool → Type 0
+    picks same = P (cond same event (lookup number rest other))

@@ -34,7 +34,8 @@ both-zero byte rest = elim (ℕ-discrete byte 0) [
   | no n ↦ rw (ne-eqb byte 0 n) (sym (ne-eqb (byte + 256 * rest) 0 (λ f. n (omega arith))))
 ]
 
-stretch-number : (bytes : List ℕ) (at count : ℕ) → at + count ≤ length bytes → allZero (take count (drop at bytes)) ≡ eqb (numberFrom bytes at count) 0
+stretch-number : (bytes : List ℕ) (at count : ℕ) → at + count ≤ length bytes
+    → allZero (take count (drop at bytes)) ≡ eqb (numberFrom bytes at count) 0
 unfolding allZero numberFrom
 stretch-number bytes at zero h = refl
 stretch-number bytes at (suc count) h =
@@ -62,17 +63,21 @@ zeros-are (byte ∷ rest) h =
     let both = and-eq-true-iff (eqb byte 0) (allZero rest) .0 h in
     λ i. eqb-true byte 0 (both .0) i ∷ zeros-are rest (both .1) i
 
-zeros-between : (bytes : List ℕ) (from until : ℕ) → until ≤ length bytes → allZero (between bytes from until) ≡ true → between bytes from until ≡ zeros (until - from)
+zeros-between : (bytes : List ℕ) (from until : ℕ) → until ≤ length bytes → allZero (between bytes from until) ≡ true
+    → between bytes from until ≡ zeros (until - from)
 zeros-between bytes from until h clear =
     let n : length (between bytes from until) ≡ until - from = simp (length-take, length-drop) (omega arith) in
     zeros-are (between bytes from until) clear ∙ ap zeros n
 
-pub zeros-outside : (bytes : List ℕ) (head start end : ℕ) → length bytes ≡ eventLength → start ≤ eventLength → zeroOutside bytes head start end ≡ true
+pub zeros-outside : (bytes : List ℕ) (head start end : ℕ) → length bytes ≡ eventLength → start ≤ eventLength
+    → zeroOutside bytes head start end ≡ true
     → (between bytes head start ≡ zeros (start - head)) × (drop end bytes ≡ zeros (eventLength - end))
 zeros-outside bytes head start end size inside clear =
     let both = and-eq-true-iff (allZero (between bytes head start)) (allZero (between bytes end eventLength)) .0 clear in
-    let n : length (drop end bytes) ≤ eventLength - end = simp length-drop (omega arith) in
-    (zeros-between bytes head start (omega arith) (both .0), sym (take-all (eventLength - end) (drop end bytes) n) ∙ zeros-between bytes end eventLength (omega arith) (both .1))
+    let n : length (drop end bytes) ≤ eventLength - end = simp length-drop (omega arith) in (
+      zeros-between bytes head start (omega arith) (both .0),
+      sym (take-all (eventLength - end) (drop end bytes) n) ∙ zeros-between bytes end eventLength (omega arith) (both .1),
+    )
 
 -- ---- a stretch is zero, and a field below it small, where the number of both is small
 
@@ -86,7 +91,8 @@ neither : (number : ℕ) (test : Bool) → (number ≡ 0 → test ≡ true → �
 neither number false h = and-false (eqb number 0)
 neither number true h = rw (ne-eqb number 0 (λ e. h e refl))
 
-both-test : (number a b : ℕ) (test : Bool) → (a < b → (number ≡ 0) × (test ≡ true)) → (number ≡ 0 → test ≡ true → a < b) → (eqb number 0 && test) ≡ ltb a b
+both-test : (number a b : ℕ) (test : Bool) → (a < b → (number ≡ 0) × (test ≡ true)) → (number ≡ 0 → test ≡ true → a < b)
+    → (eqb number 0 && test) ≡ ltb a b
 both-test number a b test there back = elim (decLt a b) [
   | yes h ↦ rw (eq-eqb number 0 (there h .0), there h .1, lt-ltb a b h)
   | no h ↦ neither number test (λ e f. h (back e f)) ∙ sym (le-ltb a b (omega arith))
@@ -105,7 +111,8 @@ module _ (bytes : List ℕ) (size : length bytes ≡ eventLength) where
   tailClear = allZero (between bytes 16 eventLength)
 
   -- a stretch whose number is a word
-  word-is : (at count word : ℕ) → at + count ≤ eventLength → numberFrom bytes at count ≡ word → allZero (take count (drop at bytes)) ≡ eqb word 0
+  word-is : (at count word : ℕ) → at + count ≤ eventLength → numberFrom bytes at count ≡ word
+      → allZero (take count (drop at bytes)) ≡ eqb word 0
   word-is at count word h e = stretch-number bytes at count (omega arith) ∙ ap (λ (n : ℕ). eqb n 0) e
 
   pub tail : tailClear ≡ (eqb (u64At bytes 16) 0 && (eqb (u64At bytes 24) 0 && eqb (u64At bytes 32) 0))
@@ -125,9 +132,12 @@ module _ (bytes : List ℕ) (size : length bytes ≡ eventLength) where
 
   -- what follows a form's fields, up to byte 16 and from there on
   outside-and : (head start end : ℕ) (field : Bool) → end ≤ 16
-      → (zeroOutside bytes head start end && field) ≡ ((allZero (between bytes head start) && field) && (allZero (between bytes end 16) && tailClear))
+      → (zeroOutside bytes head start end && field)
+      ≡ ((allZero (between bytes head start) && field) && (allZero (between bytes end 16) && tailClear))
   outside-and head start end field low =
-      ap (λ (after : Bool). (allZero (between bytes head start) && after) && field) (zero-between bytes end 16 eventLength low (omega arith))
+      ap (λ (after : Bool). (allZero (between bytes head start) && after) && field) (
+      zero-between bytes end 16 eventLength low (omega arith)
+      )
       ∙ regroup (allZero (between bytes head start)) (allZero (between bytes end 16)) tailClear field
 
   module _ (ok : IsBytes bytes) where
@@ -136,7 +146,8 @@ module _ (bytes : List ℕ) (size : length bytes ≡ eventLength) where
     one-half =
         let low = ok 8 in
         let high = ok 9 in
-        stretch-number bytes 10 6 (omega arith) ∙ low-test (numberFrom bytes 10 6) (u64At bytes 8) 65536 (λ e. omega arith) (λ e. omega arith)
+        stretch-number bytes 10 6 (omega arith)
+        ∙ low-test (numberFrom bytes 10 6) (u64At bytes 8) 65536 (λ e. omega arith) (λ e. omega arith)
 
     pub pointer-clear : zeroOutside bytes 1 4 16 ≡ (ltb (u32At bytes 0) 256 && tailClear)
     unfolding numberFrom

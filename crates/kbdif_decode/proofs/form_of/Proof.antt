@@ -32,7 +32,9 @@ lent c = let given = c .before .before .before .before .pre in
 type : (c : tie.Else4) → OtherType (getD (second c .before .before .before .before .args .bytes .now) 0 0)
 type c = other-type _ (second c .if2 .left) (c .before .if3 .left) (c .if4 .left)
 
-tail-clear : (c : tie.Else5) → allZero (between (second (c .before .before) .before .before .before .before .args .bytes .now) 16 eventLength) ≡ true
+tail-clear : (c : tie.Else5)
+    → let a = second (c .before .before) .before .before .before .before .args in
+    allZero (between (a .bytes .now) 16 eventLength) ≡ true
 tail-clear c = sym (c .before .tail-is-zero .ensures) ∙ not-false _ (c .if5 .left)
 
 shared-slice-read-kind : tie.Need-shared-slice-read-kind
@@ -85,7 +87,8 @@ returns-7 c = let five : tie.Else5 = c .before .before .before .before .before i
     let kind = c .before .before .before .if6 .taken in
     let head = c .before .before .before .before .read-u32 .ensures in
     c .checked .ensures
-    ∙ rw (c .before .eight-at .ensures) (sym (key-form (lent (second e)) kind ∙ rw (← head, lt-ltb _ _ (c .before .before .if7 .left), tail-clear five, and-true _)))
+    ∙ rw (c .before .eight-at .ensures)
+    (sym (key-form (lent (second e)) kind ∙ rw (← head, lt-ltb _ _ (c .before .before .if7 .left), tail-clear five, and-true _)))
 
 checked-requires-2 : tie.Need-checked-requires-2
 checked-requires-2 c κs = search needs
@@ -95,7 +98,8 @@ unfolding told
 returns-8 c = let five : tie.Else5 = c .before .before .before in
     let e : tie.Else4 = five .before .before in
     c .checked2 .ensures
-    ∙ rw (c .before .before .read-u32 .ensures) (sym (pointer-form (lent (second e)) (pointer-type (type e) (c .before .if6 .left)) ∙ rw (tail-clear five, and-true _)))
+    ∙ rw (c .before .before .read-u32 .ensures)
+    (sym (pointer-form (lent (second e)) (pointer-type (type e) (c .before .if6 .left)) ∙ rw (tail-clear five, and-true _)))
 
 pub form-of-spec : {M : Type 1} → statement M
 form-of-spec =

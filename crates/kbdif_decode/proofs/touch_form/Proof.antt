@@ -3,6 +3,7 @@ use Prim.Native.Nat.{ℕ, _*_, _≤_}
 use mathlib.Core.Path.{_≡_, refl, sym, ap, _∙_}
 use native.Mathlib.Omega.{arith}
 use mathlib.Core.Bool.{true, false, and-false}
+use mathlib.Core.List.{List}
 use lib.Dec.{ltb}
 use lib.ListN.{getD}
 use mathlib.Core.Logic.{_≢_}
@@ -18,7 +19,8 @@ use borrow.Author.Needs.{needs}
 use Rattle.kbdif_decode.proofs.touch_form.Statement.{statement}
 use Rattle.kbdif_decode.proofs.touch_form.Tie as tie
 
-last : (subtype : ℕ) → subtype ≤ XENKBD-MT-EV-ORIENT → XENKBD-MT-EV-SHAPE ≤ subtype → subtype ≢ XENKBD-MT-EV-SHAPE → subtype ≡ XENKBD-MT-EV-ORIENT
+last : (subtype : ℕ) → subtype ≤ XENKBD-MT-EV-ORIENT → XENKBD-MT-EV-SHAPE ≤ subtype → subtype ≢ XENKBD-MT-EV-SHAPE
+    → subtype ≡ XENKBD-MT-EV-ORIENT
 last subtype most least other = elim (ℕ-discrete subtype XENKBD-MT-EV-ORIENT) [
   | yes e ↦ e
   | no n ↦ absurd (other (omega arith))
@@ -67,8 +69,8 @@ mul-if2 : tie.Need-mul-if2
 mul-if2 c = search needs
 
 returns-2 : tie.Need-returns-2
-returns-2 c = let s = c .before .before .before .before .before in
-    sym (touch-spoiled (lent (c .before .before)) (is-touch (c .before .before)) _ refl (c .before .before .if1 .left) (rw (← c .before .eight-at .ensures, le-ltb _ _ (c .if2 .taken))))
+returns-2 c = let e : tie.Else1 = c .before .before in
+    sym (touch-spoiled (lent e) (is-touch e) _ refl (e .if1 .left) (rw (← c .before .eight-at .ensures, le-ltb _ _ (c .if2 .taken))))
 
 tail-is-zero-requires : tie.Need-tail-is-zero-requires
 tail-is-zero-requires c κs = search needs
@@ -76,13 +78,13 @@ tail-is-zero-requires c κs = search needs
 returns-3 : tie.Need-returns-3
 returns-3 c = let e : tie.Else1 = c .before .before .before .before in
     let s = e .before .before .before in
-    let off : allZero (between (s .args .bytes .now) 16 eventLength) ≡ false = sym (c .before .tail-is-zero .ensures) ∙ not-true _ (c .if3 .taken) in
-    sym (touch-spoiled (lent e) (is-touch e) _ refl (e .if1 .left) (rw off (and-false (ltb (u64At (s .args .bytes .now) 0) (s .args .contact-limit * 65536)))))
+    let bytes : List ℕ = s .args .bytes .now in
+    let off : allZero (between bytes 16 eventLength) ≡ false = sym (c .before .tail-is-zero .ensures) ∙ not-true _ (c .if3 .taken) in
+    sym (touch-spoiled (lent e) (is-touch e) _ refl (e .if1 .left) (rw off (and-false (ltb (u64At bytes 0) (s .args .contact-limit * 65536)))))
 
 returns-4 : tie.Need-returns-4
 returns-4 c = let e : tie.Else3 = c .before .before in
-    let s = low e .before .before .before in
-    (sym (axes-form (lent (low e)) (is-touch (low e)) (head-clear e) (tail-clear e) (c .if5 .taken)))
+    sym (axes-form (lent (low e)) (is-touch (low e)) (head-clear e) (tail-clear e) (c .if5 .taken))
 
 eight-at-requires-2 : tie.Need-eight-at-requires-2
 eight-at-requires-2 c κs = search needs
@@ -92,8 +94,9 @@ checked-requires c κs = search needs
 
 returns-5 : tie.Need-returns-5
 returns-5 c = let e : tie.Else3 = c .before .before .before .before in
-    let s = low e .before .before .before in
-    c .checked .ensures ∙ rw (c .before .eight-at2 .ensures) (sym (orientation-form (lent (low e)) (is-touch (low e)) (head-clear e) (tail-clear e) (last _ (low e .if1 .left) (c .before .before .before .if4 .taken) (c .before .before .if5 .left))))
+    let subtype = last _ (low e .if1 .left) (c .before .before .before .if4 .taken) (c .before .before .if5 .left) in
+    c .checked .ensures
+    ∙ rw (c .before .eight-at2 .ensures) (sym (orientation-form (lent (low e)) (is-touch (low e)) (head-clear e) (tail-clear e) subtype))
 
 eight-at-requires-3 : tie.Need-eight-at-requires-3
 eight-at-requires-3 c κs = search needs
@@ -103,13 +106,14 @@ checked-requires-2 c κs = search needs
 
 returns-6 : tie.Need-returns-6
 returns-6 c = let e : tie.Else3 = c .before .before .before .before in
-    let s = low e .before .before .before in
-    c .checked2 .ensures ∙ rw (c .before .eight-at3 .ensures) (sym (contact-form (lent (low e)) (is-touch (low e)) (head-clear e) (tail-clear e) (c .before .before .before .if4 .left) (c .before .before .if6 .taken)))
+    let few = c .before .before .before .if4 .left in
+    let odd = c .before .before .if6 .taken in
+    c .checked2 .ensures
+    ∙ rw (c .before .eight-at3 .ensures) (sym (contact-form (lent (low e)) (is-touch (low e)) (head-clear e) (tail-clear e) few odd))
 
 returns-7 : tie.Need-returns-7
 returns-7 c = let e : tie.Else3 = c .before .before in
-    let s = low e .before .before .before in
-    (sym (place-form (lent (low e)) (is-touch (low e)) (head-clear e) (tail-clear e) (c .before .if4 .left) (c .if6 .left)))
+    sym (place-form (lent (low e)) (is-touch (low e)) (head-clear e) (tail-clear e) (c .before .if4 .left) (c .if6 .left))
 
 pub touch-form-spec : {M : Type 1} → statement M
 touch-form-spec =

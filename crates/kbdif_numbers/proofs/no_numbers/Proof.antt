@@ -1,3 +1,4 @@
+-- A place of zeros.
 use borrow.Author.Needs.{needs}
 use Rattle.kbdif_numbers.proofs.no_numbers.Statement.{statement}
 use Rattle.kbdif_numbers.proofs.no_numbers.Tie as tie

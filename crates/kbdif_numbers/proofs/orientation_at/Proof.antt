@@ -19,7 +19,9 @@ orient-numbers-requires : tie.Need-orient-numbers-requires
 orient-numbers-requires c κs = search needs
 
 returns : tie.Need-returns
-returns c = c .orient-numbers .ensures ∙ rw (stored w16 _ (c .before .i16-from-bits .ok) (c .before .i16-from-bits .ensures), c .before .before .read-u16 .ensures)
+returns c =
+    c .orient-numbers .ensures
+    ∙ rw (stored w16 _ (c .before .i16-from-bits .ok) (c .before .i16-from-bits .ensures), c .before .before .read-u16 .ensures)
 
 pub orientation-at-spec : {M : Type 1} → statement M
 orientation-at-spec =

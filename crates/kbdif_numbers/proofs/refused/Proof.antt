@@ -1,3 +1,4 @@
+-- The event is the one without numbers.
 use borrow.Author.Needs.{needs}
 use Rattle.kbdif_numbers.proofs.refused.Statement.{statement}
 use Rattle.kbdif_numbers.proofs.refused.Tie as tie

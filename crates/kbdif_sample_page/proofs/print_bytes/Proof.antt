@@ -1,3 +1,4 @@
+-- The index stays within the bytes, and each turn comes nearer to their end.
 use Prim.Native.Nat.{_-_}
 use lib.ListN.{length}
 use borrow.Author.Needs.{needs}

@@ -1,3 +1,4 @@
+-- The place stays within the page, and each turn comes nearer to its end.
 use Prim.Native.Nat.{_-_, _≤_}
 use lib.ListN.{length}
 use borrow.Author.Needs.{needs}

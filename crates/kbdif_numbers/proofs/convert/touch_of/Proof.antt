@@ -1,3 +1,4 @@
+-- The subtype decides the row of the table, and signed numbers pass through their bits unchanged.
 use Rattle.kbdif_numbers.specs.Numbers.{touchOf}
 use Rattle.kbdif_decode.specs.Decode.{lookup}
 use borrow.Author.Tests.{ne-eqb}
