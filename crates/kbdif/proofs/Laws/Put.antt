@@ -68,7 +68,8 @@ module _ (page : List ℕ) (inProd contactLimit : ℕ) (event : List ℕ) where
 
   -- nothing changes
   pub refused : {number : ℕ} → number ≡ firstRefusal (putRefusals page inProd contactLimit event) → (number ≡ done → ⊥)
-      → (record { answer = number; «in_prod» = inProd } ≡ putOf page inProd contactLimit event .result) × (page ≡ putOf page inProd contactLimit event .page)
+      → (record { answer = number; «in_prod» = inProd } ≡ putOf page inProd contactLimit event .result)
+      × (page ≡ putOf page inProd contactLimit event .page)
   unfolding putAnswered
   refused {number} e some = (rw (← e, ne-eqb number done some), rw (← e, ne-eqb number done some))
 
@@ -84,7 +85,8 @@ module _ (page : List ℕ) (inProd contactLimit : ℕ) (event : List ℕ) where
   pub put-done : {at next : ℕ} {filled after : List ℕ} → firstRefusal (putRefusals page inProd contactLimit event) ≡ done
       → at ≡ eventPlace inProd → filled ≡ event → next ≡ nextIndex inProd
       → after ≡ withInProd (take at page ++ (filled ++ drop (at + eventLength - at) (drop at page))) next
-      → (record { answer = done; «in_prod» = next } ≡ putOf page inProd contactLimit event .result) × (after ≡ putOf page inProd contactLimit event .page)
+      → (record { answer = done; «in_prod» = next } ≡ putOf page inProd contactLimit event .result)
+      × (after ≡ putOf page inProd contactLimit event .page)
   unfolding putAnswered
   put-done {next = next} none place same following wrote =
       let written = placed (accepted none .event-size) place same in

@@ -22,14 +22,14 @@ module _ (out : List ℕ) (numbers : RingNumbers) where
   unfolding encodeAnswer encodedBytes firstRefusal
   wrong-length n = (rw (ne-eqb (length out) eventLength n), rw (ne-eqb (length out) eventLength n))
 
-  module _ {event : RingEvent} {isKnown : Bool} (size : length out ≡ eventLength) (e : event ≡ eventOf numbers) (k : isKnown ≡ known event) where
-    known-is : known (eventOf numbers) ≡ isKnown
+  module _ {event : RingEvent} {sure : Bool} (size : length out ≡ eventLength) (e : event ≡ eventOf numbers) (k : sure ≡ known event) where
+    known-is : known (eventOf numbers) ≡ sure
     known-is = sym (k ∙ ap known e)
 
-    pub unknown : not isKnown ≡ true → Encodes malformed out
+    pub unknown : not sure ≡ true → Encodes malformed out
     unfolding encodeAnswer encodedBytes firstRefusal
     unknown n = (rw (eq-eqb (length out) eventLength size, known-is, n), rw (eq-eqb (length out) eventLength size, known-is, n))
 
-    pub encoded : {after : List ℕ} → not isKnown ≡ false → after ≡ eventBytes event → Encodes done after
+    pub encoded : {after : List ℕ} → not sure ≡ false → after ≡ eventBytes event → Encodes done after
     unfolding encodeAnswer encodedBytes firstRefusal
     encoded y w = (rw (eq-eqb (length out) eventLength size, known-is, y), w ∙ rw (eq-eqb (length out) eventLength size, known-is, y, e))

@@ -14,7 +14,8 @@ is-known-requires : tie.Need-is-known-requires
 is-known-requires c κs = search needs
 
 returns-2 : tie.Need-returns-2
-returns-2 c = unknown _ _ (c .before .before .before .if1 .left) (c .before .before .event-of .ensures) (c .before .is-known .ensures) (c .if2 .taken)
+returns-2 c =
+    unknown _ _ (c .before .before .before .if1 .left) (c .before .before .event-of .ensures) (c .before .is-known .ensures) (c .if2 .taken)
 
 encode-requires : tie.Need-encode-requires
 encode-requires c κs = search needs
@@ -23,7 +24,10 @@ same-length : tie.Need-same-length
 same-length c = search needs
 
 returns-3 : tie.Need-returns-3
-returns-3 c = encoded _ _ (c .before .before .before .before .before .before .before .if1 .left) (c .before .before .before .before .before .before .event-of .ensures) (c .before .before .before .before .before .is-known .ensures) (c .before .before .before .before .if2 .left) (c .before .before .encode .ensures)
+returns-3 c = let tested : tie.Else2 = c .before .before .before .before in
+    encoded _ _ (tested .before .before .before .if1 .left) (tested .before .before .event-of .ensures) (tested .before .is-known .ensures)
+    (tested .if2 .left)
+    (c .before .before .encode .ensures)
 
 pub thayarqo-ring-encode-spec : {M : Type 1} → statement M
 thayarqo-ring-encode-spec =

@@ -17,7 +17,8 @@ answered-number number event = elim (ℕ-discrete number done) [
   | no n ↦ rw (ne-eqb number done n)
 ]
 
-pub answered-event : (number : ℕ) (found : RingEvent) {event : RingEvent} → answered number found ≡ Event event → (number ≡ 0) × (found ≡ event)
+pub answered-event : (number : ℕ) (found : RingEvent) {event : RingEvent} → answered number found ≡ Event event
+    → (number ≡ 0) × (found ≡ event)
 answered-event number found e = elim (ℕ-discrete number 0) [
   | yes z ↦ (z, event-same (ap (λ (b : Bool). cond b (Event found) (Refused number)) (sym (eq-eqb number 0 z)) ∙ e))
   | no z ↦ absurd (never (ap (λ (b : Bool). cond b (Event found) (Refused number)) (sym (ne-eqb number 0 z)) ∙ e))

@@ -29,15 +29,16 @@ use Rattle.kbdif_decode.proofs.Laws.Reserved.{zeros-outside}
 -- ---- bytes whose reserved ones are zero are those of an event that has their head and fields
 
 laid-out : (bytes : List ℕ) (event : RingEvent) → length bytes ≡ eventLength → reservedIsZero bytes event ≡ true
-    → layoutOf event .head ≡ between bytes 0 (extentOf event .head) → layoutOf event .fields ≡ between bytes (extentOf event .start) (extentOf event .end)
+    → layoutOf event .head ≡ between bytes 0 (extentOf event .head)
+    → layoutOf event .fields ≡ between bytes (extentOf event .start) (extentOf event .end)
     → eventBytes event ≡ bytes
 unfolding eventBytes reservedIsZero extentOf
 laid-out bytes event size reserved head fields =
     let o = ordered event in
     let e : ℕ = extentOf event .end in
     let zero = zeros-outside bytes (extentOf event .head) (extentOf event .start) e size (omega (arith, o)) reserved in
-    let same : eventBytes event ≡ between bytes 0 (extentOf event .head) ++ (between bytes (extentOf event .head) (extentOf event .start) ++ (between bytes (extentOf event .start) e ++ drop e bytes)) = λ i. head i ++ (sym (zero .0) i ++ (fields i ++ sym (zero .1) i)) in
-    same ∙ pieces bytes (extentOf event .head) (extentOf event .start) e (o .head-before) (o .start-before)
+    (λ i. head i ++ (sym (zero .0) i ++ (fields i ++ sym (zero .1) i)))
+    ∙ pieces bytes (extentOf event .head) (extentOf event .start) e (o .head-before) (o .start-before)
 
 -- an event that is read, if known, is laid out as the bytes are
 record Laid (bytes : List ℕ) (event : RingEvent) : Type 0 where
@@ -58,7 +59,8 @@ module _ (bytes : List ℕ) (size : length bytes ≡ eventLength) (ok : IsBytes 
         | no e ↦ rw (ne-eqb n 1 e) (omega arith)
       ]
 
-  touch-head : {kind subtype : ℕ} → getD bytes 0 0 ≡ kind → getD bytes 1 0 ≡ subtype → kind ∷ subtype ∷ getD bytes 2 0 ∷ [] ≡ between bytes 0 3
+  touch-head : {kind subtype : ℕ} → getD bytes 0 0 ≡ kind → getD bytes 1 0 ≡ subtype
+      → kind ∷ subtype ∷ getD bytes 2 0 ∷ [] ≡ between bytes 0 3
   touch-head kind subtype = sym (three-bytes bytes 0 (omega arith) ∙ rw (kind, subtype))
 
   -- ---- fields
@@ -78,7 +80,8 @@ module _ (bytes : List ℕ) (size : length bytes ≡ eventLength) (ok : IsBytes 
   u32-field : (at : ℕ) → at + 4 ≤ eventLength → u32Bytes (u32At bytes at) ≡ between bytes at (at + 4)
   u32-field at h = u32-bytes bytes at ok (omega arith)
 
-  after : {left right : List ℕ} (from middle until : ℕ) → from ≤ middle → middle ≤ until → left ≡ between bytes from middle → right ≡ between bytes middle until
+  after : {left right : List ℕ} (from middle until : ℕ) → from ≤ middle → middle ≤ until → left ≡ between bytes from middle
+      → right ≡ between bytes middle until
       → left ++ right ≡ between bytes from until
   after from middle until h k e f = (λ i. e i ++ f i) ∙ joined bytes from middle until h k
 
@@ -97,7 +100,8 @@ module _ (bytes : List ℕ) (size : length bytes ≡ eventLength) (ok : IsBytes 
   nothing-known = record { laid = λ k. absurd (false≢true k) }
 
   -- a touch with such fields, where its subtype is the one looked for
-  touch : (event : RingEvent) {subtype : ℕ} → layoutOf event .head ≡ XENKBD-TYPE-MTOUCH ∷ subtype ∷ getD bytes 2 0 ∷ [] → extentOf event .head ≡ 3
+  touch : (event : RingEvent) {subtype : ℕ} → layoutOf event .head ≡ XENKBD-TYPE-MTOUCH ∷ subtype ∷ getD bytes 2 0 ∷ []
+      → extentOf event .head ≡ 3
       → getD bytes 0 0 ≡ XENKBD-TYPE-MTOUCH → layoutOf event .fields ≡ between bytes (extentOf event .start) (extentOf event .end)
       → getD bytes 1 0 ≡ subtype → Laid bytes event
   touch event head three kind fields subtype = record {

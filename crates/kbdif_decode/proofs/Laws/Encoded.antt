@@ -49,7 +49,8 @@ event-back (TouchDown contact x y) fits = λ i. TouchDown contact (i32-back (fit
 event-back (TouchUp contact) fits = refl
 event-back (TouchMotion contact x y) fits = λ i. TouchMotion contact (i32-back (fits .1) i) (i32-back (fits .2) i)
 event-back (TouchSyn contact) fits = refl
-event-back (TouchShape contact major minor) fits = λ i. TouchShape contact (u32-digits major (fits .1 .fits) i) (u32-digits minor (fits .2 .fits) i)
+event-back (TouchShape contact major minor) fits = λ i.
+    TouchShape contact (u32-digits major (fits .1 .fits) i) (u32-digits minor (fits .2 .fits) i)
 event-back (TouchOrient contact orientation) fits = λ i. TouchOrient contact (i16-back (fits .1) i)
 event-back Unknown fits = refl
 

@@ -24,7 +24,8 @@ unfoldable pub judged : Bool → RingEvent → Decoded
 judged fine event = cond fine (Event event) (Refused malformed)
 
 verdict : (clear pressed beyond : Bool) (event : RingEvent)
-    → answered (firstRefusal ((not clear, malformed) ∷ (pressed, malformed) ∷ (beyond, malformed) ∷ [])) event ≡ judged (clear && (not pressed && not beyond)) event
+    → answered (firstRefusal ((not clear, malformed) ∷ (pressed, malformed) ∷ (beyond, malformed) ∷ [])) event
+    ≡ judged (clear && (not pressed && not beyond)) event
 unfolding firstRefusal judged
 verdict false pressed beyond event = refl
 verdict true true beyond event = refl
@@ -58,9 +59,12 @@ module _ (bytes : List ℕ) (contactLimit : ℕ) where
 
   -- what is decoded is the event or 9
   pub decoded-judged : decoded bytes contactLimit ≡ judged fine (eventAt bytes)
-  decoded-judged = verdict (reservedIsZero bytes (eventAt bytes)) (pressedAboveOne bytes) (leb contactLimit (contactOf (eventAt bytes))) (eventAt bytes)
+  decoded-judged =
+      let event : RingEvent = eventAt bytes in
+      verdict (reservedIsZero bytes event) (pressedAboveOne bytes) (leb contactLimit (contactOf event)) event
 
-  formed : {event : RingEvent} {clear allowed : Bool} → eventAt bytes ≡ event → clear ≡ reservedIsZero bytes event → allowedAs event ≡ allowed
+  formed : {event : RingEvent} {clear allowed : Bool} → eventAt bytes ≡ event → clear ≡ reservedIsZero bytes event
+      → allowedAs event ≡ allowed
       → decoded bytes contactLimit ≡ judged (clear && allowed) event
   formed same e f = decoded-judged ∙ rw (same, f, ← e)
 
@@ -70,7 +74,8 @@ module _ (bytes : List ℕ) (contactLimit : ℕ) where
     none-to-allow : (event : RingEvent) → (getD bytes 0 0 ≡ XENKBD-TYPE-KEY → ⊥) → contactOf event ≡ 0 → allowedAs event ≡ true
     none-to-allow event other none = rw (ne-eqb (getD bytes 0 0) XENKBD-TYPE-KEY other, none, lt-leb contactLimit 0 some)
 
-    other-formed : {event : RingEvent} {clear : Bool} → (getD bytes 0 0 ≡ XENKBD-TYPE-KEY → ⊥) → contactOf event ≡ 0 → eventAt bytes ≡ event → clear ≡ reservedIsZero bytes event
+    other-formed : {event : RingEvent} {clear : Bool} → (getD bytes 0 0 ≡ XENKBD-TYPE-KEY → ⊥) → contactOf event ≡ 0
+        → eventAt bytes ≡ event → clear ≡ reservedIsZero bytes event
         → decoded bytes contactLimit ≡ judged clear event
     other-formed {event} {clear} other none same e =
         formed same e (none-to-allow event other none) ∙ ap (λ (fine : Bool). judged fine event) (and-true clear)
@@ -88,7 +93,8 @@ module _ (bytes : List ℕ) (contactLimit : ℕ) where
     pub key-judged : {clear : Bool} → getD bytes 0 0 ≡ XENKBD-TYPE-KEY → clear ≡ zeroOutside bytes 2 4 8
         → decoded bytes contactLimit ≡ judged (clear && leb (getD bytes 1 0) 1) (Key (eqb (getD bytes 1 0) 1) (u32At bytes 4))
     unfolding eventAt lookup reservedIsZero extentOf layoutOf
-    key-judged kind e = formed (rw kind) e (rw (kind, lt-leb contactLimit 0 some, above 1 (getD bytes 1 0)) (and-true (leb (getD bytes 1 0) 1)))
+    key-judged kind e =
+        formed (rw kind) e (rw (kind, lt-leb contactLimit 0 some, above 1 (getD bytes 1 0)) (and-true (leb (getD bytes 1 0) 1)))
 
     pub unknown-found : (getD bytes 0 0 ≡ XENKBD-TYPE-KEY → ⊥) → eventAt bytes ≡ Unknown → decoded bytes contactLimit ≡ Event Unknown
     unfolding reservedIsZero extentOf layoutOf allZero judged
@@ -112,12 +118,14 @@ module _ (bytes : List ℕ) (contactLimit : ℕ) where
     unfolding eventAt lookup
     touch-event same = rw kind same
 
-    touch-formed : {event : RingEvent} {clear : Bool} → contactOf event ≡ getD bytes 2 0 → touchAt bytes ≡ event → clear ≡ reservedIsZero bytes event
+    touch-formed : {event : RingEvent} {clear : Bool} → contactOf event ≡ getD bytes 2 0 → touchAt bytes ≡ event
+        → clear ≡ reservedIsZero bytes event
         → decoded bytes contactLimit ≡ judged (clear && ltb (getD bytes 2 0) contactLimit) event
     touch-formed contact same e = formed (touch-event same) e (rw (kind, contact) (below (getD bytes 2 0) contactLimit))
 
     pub down-judged : {clear : Bool} → getD bytes 1 0 ≡ XENKBD-MT-EV-DOWN → clear ≡ zeroOutside bytes 3 8 16
-        → decoded bytes contactLimit ≡ judged (clear && ltb (getD bytes 2 0) contactLimit) (TouchDown (getD bytes 2 0) (i32At bytes 8) (i32At bytes 12))
+        → decoded bytes contactLimit
+        ≡ judged (clear && ltb (getD bytes 2 0) contactLimit) (TouchDown (getD bytes 2 0) (i32At bytes 8) (i32At bytes 12))
     unfolding touchAt lookup reservedIsZero extentOf layoutOf
     down-judged subtype e = touch-formed refl (rw subtype) e
 
@@ -127,7 +135,8 @@ module _ (bytes : List ℕ) (contactLimit : ℕ) where
     up-judged subtype e = touch-formed refl (rw subtype) e
 
     pub touch-motion-judged : {clear : Bool} → getD bytes 1 0 ≡ XENKBD-MT-EV-MOTION → clear ≡ zeroOutside bytes 3 8 16
-        → decoded bytes contactLimit ≡ judged (clear && ltb (getD bytes 2 0) contactLimit) (TouchMotion (getD bytes 2 0) (i32At bytes 8) (i32At bytes 12))
+        → decoded bytes contactLimit
+        ≡ judged (clear && ltb (getD bytes 2 0) contactLimit) (TouchMotion (getD bytes 2 0) (i32At bytes 8) (i32At bytes 12))
     unfolding touchAt lookup reservedIsZero extentOf layoutOf
     touch-motion-judged subtype e = touch-formed refl (rw subtype) e
 
@@ -137,7 +146,8 @@ module _ (bytes : List ℕ) (contactLimit : ℕ) where
     syn-judged subtype e = touch-formed refl (rw subtype) e
 
     pub shape-judged : {clear : Bool} → getD bytes 1 0 ≡ XENKBD-MT-EV-SHAPE → clear ≡ zeroOutside bytes 3 8 16
-        → decoded bytes contactLimit ≡ judged (clear && ltb (getD bytes 2 0) contactLimit) (TouchShape (getD bytes 2 0) (u32At bytes 8) (u32At bytes 12))
+        → decoded bytes contactLimit
+        ≡ judged (clear && ltb (getD bytes 2 0) contactLimit) (TouchShape (getD bytes 2 0) (u32At bytes 8) (u32At bytes 12))
     unfolding touchAt lookup reservedIsZero extentOf layoutOf
     shape-judged subtype e = touch-formed refl (rw subtype) e
 

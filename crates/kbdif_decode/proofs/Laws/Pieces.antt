@@ -32,14 +32,16 @@ module _ (bytes : List ℕ) where
   pieces first second third h k = rw (cut second third k, cut first second h) (cut 0 first (omega arith))
 
   -- two neighbours are one piece
-  pub joined : (from middle until : ℕ) → from ≤ middle → middle ≤ until → between bytes from middle ++ between bytes middle until ≡ between bytes from until
+  pub joined : (from middle until : ℕ) → from ≤ middle → middle ≤ until
+      → between bytes from middle ++ between bytes middle until ≡ between bytes from until
   joined from middle until h k =
       let e : until - from ≡ (middle - from) + (until - middle) = omega arith in
       let f : from + (middle - from) ≡ middle = omega arith in
       rw (e, take-add (middle - from) (until - middle) (drop from bytes), drop-drop (middle - from) from bytes, f)
 
   module _ (at : ℕ) where
-    next : (place following : ℕ) → following ≡ place + 1 → place < length bytes → drop place bytes ≡ getD bytes place 0 ∷ drop following bytes
+    next : (place following : ℕ) → following ≡ place + 1 → place < length bytes
+        → drop place bytes ≡ getD bytes place 0 ∷ drop following bytes
     next place following e h = rw (e, add-one, drop-cons bytes place 0 h)
 
     pub one-byte : at + 1 ≤ length bytes → between bytes at (at + 1) ≡ getD bytes at 0 ∷ []
@@ -52,7 +54,8 @@ module _ (bytes : List ℕ) where
         let n : at + 2 - at ≡ 2 = omega arith in
         rw (n, next at (at + 1) refl (omega arith), next (at + 1) (at + 2) (omega arith) (omega arith))
 
-    pub three-bytes : at + 3 ≤ length bytes → between bytes at (at + 3) ≡ getD bytes at 0 ∷ getD bytes (at + 1) 0 ∷ getD bytes (at + 2) 0 ∷ []
+    pub three-bytes : at + 3 ≤ length bytes
+        → between bytes at (at + 3) ≡ getD bytes at 0 ∷ getD bytes (at + 1) 0 ∷ getD bytes (at + 2) 0 ∷ []
     three-bytes h =
         let n : at + 3 - at ≡ 3 = omega arith in
         rw (
@@ -62,7 +65,8 @@ module _ (bytes : List ℕ) where
           next (at + 2) (at + 3) (omega arith) (omega arith),
         )
 
-    pub four-bytes : at + 4 ≤ length bytes → between bytes at (at + 4) ≡ getD bytes at 0 ∷ getD bytes (at + 1) 0 ∷ getD bytes (at + 2) 0 ∷ getD bytes (at + 3) 0 ∷ []
+    pub four-bytes : at + 4 ≤ length bytes
+        → between bytes at (at + 4) ≡ getD bytes at 0 ∷ getD bytes (at + 1) 0 ∷ getD bytes (at + 2) 0 ∷ getD bytes (at + 3) 0 ∷ []
     four-bytes h =
         let n : at + 4 - at ≡ 4 = omega arith in
         rw (

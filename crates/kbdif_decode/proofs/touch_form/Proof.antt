@@ -2,7 +2,7 @@
 use Prim.Native.Nat.{ℕ, _*_, _≤_}
 use mathlib.Core.Path.{_≡_, refl, sym, ap, _∙_}
 use native.Mathlib.Omega.{arith}
-use mathlib.Core.Bool.{true, false, and-false}
+use mathlib.Core.Bool.{Bool, true, false, and-false}
 use mathlib.Core.List.{List}
 use lib.Dec.{ltb}
 use lib.ListN.{getD}
@@ -80,7 +80,8 @@ returns-3 c = let e : tie.Else1 = c .before .before .before .before in
     let s = e .before .before .before in
     let bytes : List ℕ = s .args .bytes .now in
     let off : allZero (between bytes 16 eventLength) ≡ false = sym (c .before .tail-is-zero .ensures) ∙ not-true _ (c .if3 .taken) in
-    sym (touch-spoiled (lent e) (is-touch e) _ refl (e .if1 .left) (rw off (and-false (ltb (u64At bytes 0) (s .args .contact-limit * 65536)))))
+    let head : Bool = ltb (u64At bytes 0) (s .args .contact-limit * 65536) in
+    sym (touch-spoiled (lent e) (is-touch e) _ refl (e .if1 .left) (rw off (and-false head)))
 
 returns-4 : tie.Need-returns-4
 returns-4 c = let e : tie.Else3 = c .before .before in

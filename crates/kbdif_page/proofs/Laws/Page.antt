@@ -58,7 +58,8 @@ limit-small limit h = leb-true limit 32 (and-eq-true-iff (leb 1 limit) (leb limi
 -- ---- places
 
 -- fewer than 51 events apart, one ends before the other begins
-pub places-apart : (index later : ℕ) → index < later → later < index + ringLength → eventPlace later < eventPlace index + eventLength → eventPlace later + eventLength ≤ eventPlace index
+pub places-apart : (index later : ℕ) → index < later → later < index + ringLength → eventPlace later < eventPlace index + eventLength
+    → eventPlace later + eventLength ≤ eventPlace index
 places-apart index later h k near = omega arith
 
 module _ (page : List ℕ) (size : length page ≡ pageLength) where

@@ -14,7 +14,13 @@ touch-of-requires c κs = search needs
 
 returns : tie.Need-returns
 unfolding eventOf lookup
-returns c = rw (stored w32 (c .before .before .args .numbers .x) (c .struct-told .given .1 .1 .1 .1 .0 .1) refl, stored w32 (c .before .before .args .numbers .y) (c .struct-told .given .1 .1 .1 .1 .1 .0 .1) refl, stored w32 (c .before .before .args .numbers .z) (c .struct-told .given .1 .1 .1 .1 .1 .1 .0 .1) refl, c .before .match .keys1)
+returns c =
+    rw (
+      stored w32 (c .before .before .args .numbers .x) (c .struct-told .given .1 .1 .1 .1 .0 .1) refl,
+      stored w32 (c .before .before .args .numbers .y) (c .struct-told .given .1 .1 .1 .1 .1 .0 .1) refl,
+      stored w32 (c .before .before .args .numbers .z) (c .struct-told .given .1 .1 .1 .1 .1 .1 .0 .1) refl,
+      c .before .match .keys1,
+    )
 
 returns-2 : tie.Need-returns-2
 unfolding eventOf lookup
@@ -22,7 +28,13 @@ returns-2 c = rw (c .match .keys2)
 
 returns-3 : tie.Need-returns-3
 unfolding eventOf lookup
-returns-3 c = rw (stored w32 (c .before .before .args .numbers .x) (c .struct-told2 .given .1 .1 .1 .1 .0 .1) refl, stored w32 (c .before .before .args .numbers .y) (c .struct-told2 .given .1 .1 .1 .1 .1 .0 .1) refl, stored w32 (c .before .before .args .numbers .z) (c .struct-told2 .given .1 .1 .1 .1 .1 .1 .0 .1) refl, c .before .match .keys3)
+returns-3 c =
+    rw (
+      stored w32 (c .before .before .args .numbers .x) (c .struct-told2 .given .1 .1 .1 .1 .0 .1) refl,
+      stored w32 (c .before .before .args .numbers .y) (c .struct-told2 .given .1 .1 .1 .1 .1 .0 .1) refl,
+      stored w32 (c .before .before .args .numbers .z) (c .struct-told2 .given .1 .1 .1 .1 .1 .1 .0 .1) refl,
+      c .before .match .keys3,
+    )
 
 returns-4 : tie.Need-returns-4
 unfolding eventOf lookup
@@ -30,7 +42,13 @@ returns-4 c = rw (c .touch-of .ensures, c .before .match .keys4)
 
 returns-5 : tie.Need-returns-5
 unfolding eventOf lookup
-returns-5 c = rw (ne-eqb _ _ (c .match .rest .0 .0 .0 .1), ne-eqb _ _ (c .match .rest .0 .0 .1), ne-eqb _ _ (c .match .rest .0 .1), ne-eqb _ _ (c .match .rest .1))
+returns-5 c =
+    rw (
+      ne-eqb _ _ (c .match .rest .0 .0 .0 .1),
+      ne-eqb _ _ (c .match .rest .0 .0 .1),
+      ne-eqb _ _ (c .match .rest .0 .1),
+      ne-eqb _ _ (c .match .rest .1),
+    )
 
 pub event-of-spec : {M : Type 1} → statement M
 event-of-spec =
