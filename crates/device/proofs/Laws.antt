@@ -1,3 +1,4 @@
+-- By subject: the state's rules and what keeps them, what is known of a call, and room for records.
 pub mod Rules
 pub mod Call
 pub mod Room

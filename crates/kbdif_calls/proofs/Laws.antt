@@ -1,2 +1,3 @@
+-- By subject: the ways out of an encode and of a decode.
 pub mod Encode
 pub mod Decode

@@ -1,3 +1,4 @@
+-- By subject: bytes in pieces, reserved ones, the tables, what is judged of an event, and events there and back.
 pub mod Pieces
 pub mod Reserved
 pub mod Lookup

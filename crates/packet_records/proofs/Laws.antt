@@ -1,1 +1,2 @@
+-- By subject: how many records a packet takes.
 pub mod Put

@@ -1,2 +1,3 @@
+-- By subject: what a reader makes of records, and what is pending after each thing that can happen to a ring.
 pub mod Runs
 pub mod Pending

@@ -13,7 +13,7 @@ use Rattle.geometry.specs.Geometry.{allowed, slotCount}
 use Rattle.geometry.proofs.Laws.Allowed.{sizes}
 use Rattle.geometry.proofs.Laws.Slots.{few-slots}
 use Rattle.records.specs.declared.Event.{Event}
-use Rattle.records.specs.Event.{EventFits, eventsFrom}
+use Rattle.records.specs.Event.{mostEvents, EventFits, eventsFrom}
 use Rattle.records.specs.Codes.{DEV-SET, DEV-CONF, DEV-RESET, SYN-REPORT, SYN-DROPPED, allSlots, noSlot, synRecord, devRecord}
 use Rattle.assembly.specs.declared.Driver.{Driver}
 use Rattle.assembly.specs.declared.Kind.{Kind}
@@ -65,13 +65,13 @@ module _ (geometry : Geometry) where
   -- ---- events and reports
 
   -- one more is held
-  grown : {collector : Collector} {slot : ℕ} {events : List Event} → Holding slot events collector → length events < 32
+  grown : {collector : Collector} {slot : ℕ} {events : List Event} → Holding slot events collector → length events < mostEvents
       → joined (collector .driver) ≡ withOneMore (collector .driver)
   unfolding joined
-  grown {collector} h few = rw (h .not-ignoring, lt-leb 32 (collector .driver .held) (omega (arith, h .count)))
+  grown {collector} h few = rw (h .not-ignoring, lt-leb mostEvents (collector .driver .held) (omega (arith, h .count)))
 
   pub join : (event : Event) {collector : Collector} {slot : ℕ} {events : List Event} → kindOf geometry event ≡ kind.Other
-      → EventFits event → Holding slot events collector → length events < 32
+      → EventFits event → Holding slot events collector → length events < mostEvents
       → Leads geometry event collector [] slot (events ++ (event ∷ []))
   join event {collector} {slot} {events} e fits h few =
       let driver : Driver = collector .driver in

@@ -11,7 +11,7 @@ use Rattle.geometry.specs.declared.Geometry.{Geometry}
 use Rattle.geometry.specs.Geometry.{slotCount}
 use Rattle.geometry.proofs.Laws.Allowed.{both}
 use Rattle.records.specs.declared.Event.{Event}
-use Rattle.records.specs.Event.{EventFits, AllFit}
+use Rattle.records.specs.Event.{mostEvents, EventFits, AllFit}
 use Rattle.records.specs.Codes.{SYN-REPORT, synRecord}
 use Rattle.entries.specs.Offer.{isOffered, offersCode}
 use Rattle.assembly.specs.Collect.{Collector, collect}
@@ -61,7 +61,7 @@ module _ (geometry : Geometry) where
 
   -- offered events are collected
   join-then : (entry : List ℕ) {slot : ℕ} (event : Event) (rest : List Event) {collector : Collector} {events : List Event}
-      → Holding slot events collector → isOffered entry event ≡ true → EventFits event → length events < 32
+      → Holding slot events collector → isOffered entry event ≡ true → EventFits event → length events < mostEvents
       → ((middle : Collector) → Holding slot (events ++ (event ∷ [])) middle
       → Runs geometry middle rest [] slot ((events ++ (event ∷ [])) ++ rest))
       → Runs geometry collector (event ∷ rest) [] slot (events ++ (event ∷ rest))
@@ -69,8 +69,8 @@ module _ (geometry : Geometry) where
       let other = offered-other geometry entry event ok in
       rw (sym (append-assoc events (event ∷ []) rest)) (then (one (join geometry event other fits h few)) more)
 
-  fewer : (event : Event) (events rest : List Event) → length events + length (event ∷ rest) ≤ 32
-      → length (events ++ (event ∷ [])) + length rest ≤ 32
+  fewer : (event : Event) (events rest : List Event) → length events + length (event ∷ rest) ≤ mostEvents
+      → length (events ++ (event ∷ [])) + length rest ≤ mostEvents
   fewer event events rest few = rw (length-append events (event ∷ [])) (omega arith)
 
   offered-both : (entry : List ℕ) (event : Event) (rest : List Event) → allOffered entry (event ∷ rest) ≡ true
@@ -79,7 +79,7 @@ module _ (geometry : Geometry) where
   offered-both entry event rest ok = both (isOffered entry event) (allOffered entry rest) ok
 
   joins : (entry : List ℕ) {slot : ℕ} (more : List Event) {collector : Collector} {events : List Event} → Holding slot events collector
-      → allOffered entry more ≡ true → AllFit more → length events + length more ≤ 32
+      → allOffered entry more ≡ true → AllFit more → length events + length more ≤ mostEvents
       → Runs geometry collector more [] slot (events ++ more)
   joins entry {slot} [] {collector} {events} h ok fits few = rw (append-nil events) (none h)
   joins entry {slot} (event ∷ rest) {collector} {events} h ok fits few =
@@ -112,7 +112,7 @@ module _ (geometry : Geometry) where
 
   pub packet-runs : (entry : List ℕ) (lost : Bool) (current slot : ℕ) (events : List Event) {collector : Collector}
       → Holding current [] collector → slot < slotCount geometry
-      → allOffered entry events ≡ true → AllFit events → 0 < length events → length events ≤ 32
+      → allOffered entry events ≡ true → AllFit events → 0 < length events → length events ≤ mostEvents
       → Runs geometry collector (recordsFor lost current slot events) (gapIf lost ++ (whole slot events ∷ [])) slot []
   packet-runs entry lost current slot events h low ok fits some few =
       then (lost-runs lost h)

@@ -1,3 +1,4 @@
+-- What the name is decides: a flag and a number have a reader of their own, and any other name leaves the settings.
 use mathlib.Core.Path.{sym, _∙_}
 use Rattle.nodes.specs.Nodes.{afterNode}
 use borrow.Author.Needs.{needs}

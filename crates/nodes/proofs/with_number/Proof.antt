@@ -1,3 +1,4 @@
+-- Each arm stores the parameter in the field that the definition's line for this name sets.
 use Rattle.nodes.specs.Settings.{withNumber}
 use borrow.Author.Needs.{needs}
 use Rattle.nodes.proofs.with_number.Statement.{statement}
