@@ -24,9 +24,17 @@ static uint8_t write_wide(uint64_t offset, uint32_t width)
 
 /* ---- the registers ---- */
 
+static struct thayarqo_device device_of_zeros(void)
+{
+    struct thayarqo_device zeros;
+    memset(&zeros, 0, sizeof zeros);
+    return zeros;
+}
+
 static void start_fresh(void)
 {
-    const struct thayarqo_device fresh = {false, false, false, false, false, 0, 0, THAYARQO_NO_SLOT, 0};
+    struct thayarqo_device fresh = device_of_zeros();
+    fresh.current_slot = THAYARQO_NO_SLOT;
     check("a fresh device", same_device(device, &fresh));
     reads("MAGIC", THAYARQO_DONE, 0x584D4F55, 0, 4);
     reads("REV at first", THAYARQO_DONE, 1, 4, 4);
@@ -41,10 +49,9 @@ static void start_fresh(void)
 /* Zeros aren't a fresh device: slot 0 is current, and isn't taken. */
 static void refuse_zeros(void)
 {
-    static const struct thayarqo_device zeros = {false, false, false, false, false, 0, 0, 0, 0};
     uint8_t entry[ENTRY];
     make_entry(entry, MOUSE, BUTTONS);
-    *device = next_device = zeros;
+    *device = next_device = device_of_zeros();
     reads("a read of a device of zeros", THAYARQO_INVALID, 0, 0, 4);
     answers("a write to it", THAYARQO_INVALID, write_register(CLIENT_REV, 2));
     answers("an add to it", THAYARQO_INVALID, add(SLOT, entry, ENTRY));
