@@ -72,9 +72,9 @@ struct thayarqo_device {
     bool client_rev_written; /* while off */
     uint32_t client_rev;
     /* The device's end of the ring, which a switch-on starts anew. */
+    bool lost; /* a packet was refused with 10 or 7 since the last one accepted, or since the switch-on */
     uint32_t write_index;
     uint32_t current_slot; /* of the last packet accepted, or THAYARQO_NO_SLOT: after a switch-on, and a remove of that slot */
-    bool lost;             /* a packet was refused with 10 or 7 since the last one accepted, or since the switch-on */
     /* The slots that devices were added to, a bit each, slot 0 the lowest. */
     uint64_t taken;
 };

@@ -25,9 +25,9 @@ THAYARQO_AT(device, interrupts, 1);
 THAYARQO_AT(device, isr, 2);
 THAYARQO_AT(device, client_rev_written, 3);
 THAYARQO_AT(device, client_rev, 4);
-THAYARQO_AT(device, write_index, 8);
-THAYARQO_AT(device, current_slot, 12);
-THAYARQO_AT(device, lost, 16);
+THAYARQO_AT(device, lost, 8);
+THAYARQO_AT(device, write_index, 12);
+THAYARQO_AT(device, current_slot, 16);
 THAYARQO_AT(device, taken, 24);
 THAYARQO_SIZE(device, 32);
 

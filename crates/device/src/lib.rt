@@ -34,12 +34,12 @@ pub struct Registers {
 // The device's end of the ring. A switch-on starts it anew.
 #[repr(C)]
 pub struct Producer {
+    // The lost mark: since the last packet that was put one was refused with 10 or 7.
+    pub lost: bool,
     // The private write index. WRITE_PTR in the area is a copy for the guest.
     pub write_index: u32,
     // The slot of the last packet; none after a switch-on, and after a remove of that slot.
     pub current_slot: u32,
-    // The lost mark: since the last packet that was put one was refused with 10 or 7.
-    pub lost: bool,
 }
 
 #[repr(C)]

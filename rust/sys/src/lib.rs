@@ -51,9 +51,9 @@ pub struct Device {
     pub isr: bool,
     pub client_rev_written: bool,
     pub client_rev: u32,
+    pub lost: bool,
     pub write_index: u32,
     pub current_slot: u32,
-    pub lost: bool,
     pub taken: u64,
 }
 
