@@ -123,7 +123,8 @@ pub extern "C" fn thayarqo_copy_out(
 
 #[no_mangle]
 pub extern "C" fn thayarqo_lookup(geometry: Geometry, page: &[u8], slot: u32, out: &mut [u8]) -> u8
-    ensures { λ r. ⌜ (r ≡ entryCopyAnswer geometry (now (page .entry)) slot (now (out .entry))) × (now (out .exit) ≡ copiedEntry geometry (now (page .entry)) slot (now (out .entry))) ⌝ }
+    ensures { λ r. ⌜ (r ≡ entryCopyAnswer geometry (now (page .entry)) slot (now (out .entry)))
+        × (now (out .exit) ≡ copiedEntry geometry (now (page .entry)) slot (now (out .entry))) ⌝ }
 {
     if out.len() != entries::KNOWN_LENGTH {
         return INVALID;

@@ -1,10 +1,12 @@
 -- The form of what 40 bytes hold: which fields there are to read, and where.
 use Prim.Native.Nat.{ℕ}
 use Rattle.kbdif_events.specs.declared.RingEvent.{RingEvent}
-use Rattle.kbdif_events.specs.declared.RingEvent.the-variants.{Motion, Key, Pos, TouchDown, TouchUp, TouchMotion, TouchSyn, TouchShape, TouchOrient, Unknown}
+use Rattle.kbdif_events.specs.declared.RingEvent.the-variants.{Motion, Key, Pos, TouchDown, TouchUp, TouchMotion, TouchSyn, TouchShape}
+use Rattle.kbdif_events.specs.declared.RingEvent.the-variants.{TouchOrient, Unknown}
 use Rattle.kbdif_decode.specs.Decode.{Decoded, Event, Refused}
 use Rattle.kbdif_decode.specs.declared.Form.{Form}
-use Rattle.kbdif_decode.specs.declared.Form.the-variants.{Malformed, UnknownType, Pointer, KeyPress, Place, Contact, Axes, Orientation}
+use Rattle.kbdif_decode.specs.declared.Form.the-variants.{Malformed, UnknownType, Pointer, KeyPress, Place, Contact, Axes}
+use Rattle.kbdif_decode.specs.declared.Form.the-variants.{Orientation}
 
 abbrev pub eventForm : RingEvent → Form
 eventForm (Motion x y z) = Pointer

@@ -8,7 +8,8 @@ ghost use mathlib.Core.Path.{_≡_};
 ghost use Prim.Native.Nat.{_+_, _≤_, _<_};
 ghost use lib.ListN.{length};
 ghost use Rattle.records.specs.Event.{eventBytes, eventAt};
-ghost use Rattle.records.specs.Ring.{Holds, readPointer, writePointer, withReadPointer, withWritePointer, nextIndex, unreadCount, hasRoom, putRecord};
+ghost use Rattle.records.specs.Ring.{Holds, readPointer, writePointer, withReadPointer, withWritePointer, nextIndex, unreadCount};
+ghost use Rattle.records.specs.Ring.{hasRoom, putRecord};
 ghost use Rattle.records.specs.Unread.{recordAt};
 
 // A packet has so many events at most.

@@ -19,5 +19,7 @@ use Rattle.registers.specs.Write.{controlOf, writeOf}
 use Rattle.cases.specs.Cases.{Cases}
 
 pub all-right : Cases
-unfolding firstRefusal overwrite bit isRecordSize isEntrySize allowed eventBytes eventAt eventsFrom putRecord putRecords indexAfter offersCode isOffered clientRevRule currentRule isDevice isValidPages isValidCall allOffered packetAnswer packetOf accessAnswer placeIn placeOf takenFrom switchOn controlOf writeOf
+unfolding firstRefusal overwrite bit isRecordSize isEntrySize allowed eventBytes eventAt eventsFrom putRecord putRecords
+    indexAfter offersCode isOffered clientRevRule currentRule isDevice isValidPages isValidCall allOffered packetAnswer packetOf
+    accessAnswer placeIn placeOf takenFrom switchOn controlOf writeOf
 all-right = (refl, (refl, (refl, (refl, (refl, (refl, (refl, (refl, (refl, (refl, (refl, (refl, (refl, (refl, (refl, (refl, (refl, (refl, (refl, (refl, (refl, tt)))))))))))))))))))))

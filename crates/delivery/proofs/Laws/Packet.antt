@@ -55,7 +55,8 @@ module _ (geometry : Geometry) (world : World) {pending : List Item} (h : Invari
   unfolding answer packetAnswer
   not-ten =
       let low = lt-leb (ringLength geometry) (readPointer (world .area)) (h .ahead .read-inside) in
-      let some = ne-eqb (length (put world slot events)) 0 (records-some (world .device .producer .lost) (currentSlot world) slot (eventsOf events)) in
+      let some = ne-eqb (length (put world slot events)) 0
+      (records-some (world .device .producer .lost) (currentSlot world) slot (eventsOf events)) in
       never-answers 10 (packetRefusals geometry (world .device) (world .area) (world .page) slot events) (rw (some, low))
 
   -- refused, but not for room

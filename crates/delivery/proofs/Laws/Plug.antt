@@ -77,7 +77,8 @@ module _ (geometry : Geometry) (world : World) {pending : List Item} (h : Invari
 
   added : (entry : List ℕ) → addAnswer geometry (world .device) (world .area) (world .page) slot entry ≡ 0
       → Invariant geometry (leftBy world (afterAdd geometry slot (world .device))
-      (areaAfter geometry (world .device) (addRecords (world .device) slot) (world .area)) (withEntry geometry slot entry (world .page))) pending
+      (areaAfter geometry (world .device) (addRecords (world .device) slot) (world .area))
+      (withEntry geometry slot entry (world .page))) pending
   added entry none =
       let a = add-accepted geometry (world .device) (world .area) (world .page) slot entry none in
       let shared = a .shared in
@@ -103,7 +104,8 @@ module _ (geometry : Geometry) (world : World) {pending : List Item} (h : Invari
 
   removed : removeAnswer geometry (world .device) (world .area) (world .page) slot ≡ 0
       → Invariant geometry (leftBy world (afterRemove geometry slot (world .device))
-      (areaAfter geometry (world .device) (removeRecords (world .device) slot) (world .area)) (withoutEntry geometry slot (world .page))) pending
+      (areaAfter geometry (world .device) (removeRecords (world .device) slot) (world .area))
+      (withoutEntry geometry slot (world .page))) pending
   removed none =
       let a = remove-accepted geometry (world .device) (world .area) (world .page) slot none in
       let shared = a .shared in

@@ -159,7 +159,8 @@ module _ (geometry : Geometry) (device : Device) (area : List ℕ) (ok : allowed
 
 -- a write that changes the state was a call
 was-call : (geometry : Geometry) (device : Device) (area : List ℕ) (pageSize offset width value : ℕ) → device .registers .on ≡ false
-    → writeOf geometry device area pageSize offset width value .outcome .device .registers .on ≡ true → Call geometry device (length area) pageSize
+    → writeOf geometry device area pageSize offset width value .outcome .device .registers .on ≡ true
+    → Call geometry device (length area) pageSize
 unfolding writeOf
 was-call geometry device area pageSize offset width value off on =
     go (eqb (accessAnswer geometry device (length area) pageSize true offset width) 0) refl

@@ -42,7 +42,8 @@ pub call-with : (geometry : Geometry) {device : Device} {areaSize pageSize : ℕ
     → Rules geometry after → isValidCall geometry after areaSize pageSize ≡ true
 unfolding isValidPages isValidCall
 call-with geometry {areaSize = areaSize} {pageSize} after c keeps =
-    rw (c .is-allowed, eq-eqb areaSize (areaLength geometry) (c .area-size), eq-eqb pageSize 4096 (c .page-size)) (rules-hold geometry after keeps)
+    rw (c .is-allowed, eq-eqb areaSize (areaLength geometry) (c .area-size), eq-eqb pageSize 4096 (c .page-size))
+    (rules-hold geometry after keeps)
 
 pub pages-allowed : (geometry : Geometry) (areaSize pageSize : ℕ) → isValidPages geometry areaSize pageSize ≡ true → allowed geometry ≡ true
 unfolding isValidPages

@@ -15,7 +15,8 @@ use Rattle.records.specs.Codes.{noSlot}
 use Rattle.device.specs.declared.Registers.{Registers}
 use Rattle.device.specs.declared.Producer.{Producer}
 use Rattle.device.specs.declared.Device.{Device}
-use Rattle.device.specs.Setters.{withProducer, withTaken, withControl, withIsr, withClientRev, withWriteIndex, withCurrentSlot, withLost}
+use Rattle.device.specs.Setters.{withProducer, withTaken, withControl, withIsr, withClientRev, withWriteIndex, withCurrentSlot}
+use Rattle.device.specs.Setters.{withLost}
 use Rattle.device.specs.State.{isTaken, mayRun, takenRule, writeIndexRule, clientRevRule, currentRule, isDevice}
 
 pub record Rules (geometry : Geometry) (device : Device) : Type 0 where
@@ -75,7 +76,8 @@ module _ {geometry : Geometry} {device : Device} (keeps : Rules geometry device)
   }
 
   -- a device is switched on only where it may run
-  pub rules-control : (on interrupts : Bool) → (on ≡ true → mayRun (device .registers) ≡ true) → Rules geometry (withControl on interrupts device)
+  pub rules-control : (on interrupts : Bool) → (on ≡ true → mayRun (device .registers) ≡ true)
+      → Rules geometry (withControl on interrupts device)
   unfolding clientRevRule
   rules-control on interrupts may =
       let parts = client-rev-parts (device .registers) (keeps .client-rev) in
@@ -87,7 +89,8 @@ module _ {geometry : Geometry} {device : Device} (keeps : Rules geometry device)
       }
 
   -- while off CLIENT_REV becomes 0 or 2
-  pub rules-client-rev : (rev : ℕ) → device .registers .on ≡ false → (eqb rev 0 || eqb rev 2) ≡ true → Rules geometry (withClientRev rev device)
+  pub rules-client-rev : (rev : ℕ) → device .registers .on ≡ false → (eqb rev 0 || eqb rev 2) ≡ true
+      → Rules geometry (withClientRev rev device)
   unfolding clientRevRule
   rules-client-rev rev off allowed = record {
     write-inside = keeps .write-inside;

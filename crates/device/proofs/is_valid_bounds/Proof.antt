@@ -10,7 +10,8 @@ use Rattle.device.proofs.is_valid_bounds.Statement.{statement}
 use Rattle.device.proofs.is_valid_bounds.Tie as tie
 
 -- what is known once the pages are right
-known : (c : tie.Else1) → isValidPages (c .before .before .args .geometry) (c .before .before .args .area-size) (c .before .before .args .page-size) ≡ true
+known : (c : tie.Else1)
+    → isValidPages (c .before .before .args .geometry) (c .before .before .args .area-size) (c .before .before .args .page-size) ≡ true
 known c = sym (c .before .is-valid-pages .ensures) ∙ not-false _ (c .if1 .left)
 
 is-valid-pages-requires : tie.Need-is-valid-pages-requires

@@ -10,7 +10,8 @@ is-valid-bounds-requires : tie.Need-is-valid-bounds-requires
 is-valid-bounds-requires c κs = search needs
 
 returns : tie.Need-returns
-returns c = rw (← call-tests _ (c .before .before .args .device) _ _, sym (c .before .is-valid-bounds .ensures) ∙ not-true _ (c .if1 .taken))
+returns c =
+    rw (← call-tests _ (c .before .before .args .device) _ _, sym (c .before .is-valid-bounds .ensures) ∙ not-true _ (c .if1 .taken))
 
 keeps-rules-requires : tie.Need-keeps-rules-requires
 keeps-rules-requires c κs = search needs

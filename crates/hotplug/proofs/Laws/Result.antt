@@ -34,11 +34,13 @@ module _ (geometry : Geometry) (device : Device) (area page : List ℕ) (slot : 
   unfolding addOf
   add-refused entry e = refused device area page _ _ e n o
 
-  pub remove-refused : refusal ≡ removeAnswer geometry device area page slot → Leaves (removeOf geometry device area page slot) outcome area page
+  pub remove-refused : refusal ≡ removeAnswer geometry device area page slot
+      → Leaves (removeOf geometry device area page slot) outcome area page
   unfolding removeOf
   remove-refused e = refused device area page _ _ e n o
 
-module _ (geometry : Geometry) (device : Device) (area page : List ℕ) (slot : ℕ) {index taken : ℕ} {area′ page′ : List ℕ} {outcome : Outcome} where
+module _ (geometry : Geometry) (device : Device) (area page : List ℕ) (slot : ℕ) {index taken : ℕ} {area′ page′ : List ℕ}
+    {outcome : Outcome} where
   pub added : (entry : List ℕ) → addAnswer geometry device area page slot entry ≡ 0
       → Put (ringOf geometry) (device .producer .«write_index») (addRecords device slot) area area′ index
       → page′ ≡ withEntry geometry slot entry page → taken ≡ withBit (device .taken) slot

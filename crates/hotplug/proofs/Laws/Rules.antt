@@ -33,7 +33,8 @@ module _ (geometry : Geometry) (device : Device) (slot : ℕ) (keeps : Rules geo
 
   -- the current slot without this one is none, or taken in either mask
   without : (after : ℕ) → (isTaken (device .taken) (device .producer .«current_slot») ≡ true → device .producer .«current_slot» ≢ slot
-      → isTaken after (device .producer .«current_slot») ≡ true) → currentRule after (currentWithout (device .producer .«current_slot») slot) ≡ true
+      → isTaken after (device .producer .«current_slot») ≡ true)
+      → currentRule after (currentWithout (device .producer .«current_slot») slot) ≡ true
   without after stays = elim (ℕ-discrete (device .producer .«current_slot») slot) [
     | yes same ↦ rw (eq-eqb (device .producer .«current_slot») slot same) (none-current after)
     | no other ↦ rw (ne-eqb (device .producer .«current_slot») slot other)
@@ -61,7 +62,9 @@ module _ (geometry : Geometry) (device : Device) (area page : List ℕ) (slot : 
   unfolding addOf
   add-call-keeps entry =
       unless-refused _ _
-      (λ none. let a = add-accepted geometry device area page slot entry none in add-keeps geometry device slot keeps (a .shared .in-range) (a .free))
+      (λ none.
+      let a = add-accepted geometry device area page slot entry none in
+      add-keeps geometry device slot keeps (a .shared .in-range) (a .free))
 
   pub remove-call-keeps : Rules geometry (removeOf geometry device area page slot .outcome .device)
   unfolding removeOf

@@ -19,7 +19,8 @@ use Rattle.kbdif_events.specs.declared.RingEvent.{RingEvent}
 use Rattle.kbdif_events.specs.declared.RingEvent.the-variants.{Unknown}
 use Rattle.kbdif_events.specs.Types.{XENKBD-TYPE-KEY, XENKBD-TYPE-MTOUCH}
 use Rattle.kbdif_events.specs.Event.{eventLength, between, layoutOf, eventBytes, i32Bytes, i16Bytes, known}
-use Rattle.kbdif_decode.specs.Decode.{Event, i32At, i16At, lookup, touchAt, eventAt, extentOf, reservedIsZero, pressedAboveOne, eventRefusals, decoded}
+use Rattle.kbdif_decode.specs.Decode.{Event, i32At, i16At, lookup, touchAt, eventAt, extentOf, reservedIsZero, pressedAboveOne}
+use Rattle.kbdif_decode.specs.Decode.{eventRefusals, decoded}
 use Rattle.kbdif_decode.proofs.Laws.Answer.{answered-event}
 use Rattle.kbdif_decode.proofs.Laws.Layout.{ordered}
 use Rattle.kbdif_decode.proofs.Laws.Lookup.{Entries, picked}

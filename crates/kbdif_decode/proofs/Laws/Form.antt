@@ -16,8 +16,10 @@ use Rattle.kbdif_decode.specs.Reserved.{u64At, allZero, zeroOutside}
 use Rattle.kbdif_decode.specs.Decode.{Decoded, Event, Refused, lookup, eventAt, decoded, mayBePut}
 use Rattle.kbdif_decode.specs.Form.{eventForm, formOf}
 use Rattle.kbdif_decode.specs.declared.Form.{Form}
-use Rattle.kbdif_decode.specs.declared.Form.the-variants.{Malformed, UnknownType, Pointer, KeyPress, Place, Contact, Axes, Orientation}
-use Rattle.kbdif_decode.proofs.Laws.Judged.{judged, motion-judged, position-judged, key-judged, unknown-found, down-judged, up-judged, touch-motion-judged, syn-judged, shape-judged, orientation-judged}
+use Rattle.kbdif_decode.specs.declared.Form.the-variants.{Malformed, UnknownType, Pointer, KeyPress, Place, Contact, Axes}
+use Rattle.kbdif_decode.specs.declared.Form.the-variants.{Orientation}
+use Rattle.kbdif_decode.proofs.Laws.Judged.{judged, motion-judged, position-judged, key-judged, unknown-found, down-judged}
+use Rattle.kbdif_decode.proofs.Laws.Judged.{up-judged, touch-motion-judged, syn-judged, shape-judged, orientation-judged}
 use Rattle.kbdif_decode.proofs.Laws.Reserved.{tailClear, no-fields, one-half, pointer-clear, key-clear, touch-clear}
 
 -- a form, or malformed

@@ -12,12 +12,15 @@ use borrow.Author.Tests.{ne-eqb, lt-leb, lt-ltb, le-leb, le-ltb}
 use Rattle.answers.specs.Answers.{malformed}
 use Rattle.answers.specs.Refusals.{firstRefusal}
 use Rattle.kbdif_events.specs.declared.RingEvent.{RingEvent}
-use Rattle.kbdif_events.specs.declared.RingEvent.the-variants.{Motion, Key, Pos, TouchDown, TouchUp, TouchMotion, TouchSyn, TouchShape, TouchOrient, Unknown}
+use Rattle.kbdif_events.specs.declared.RingEvent.the-variants.{Motion, Key, Pos, TouchDown, TouchUp, TouchMotion, TouchSyn, TouchShape}
+use Rattle.kbdif_events.specs.declared.RingEvent.the-variants.{TouchOrient, Unknown}
 use Rattle.words.specs.Words.{u32At}
-use Rattle.kbdif_events.specs.Types.{XENKBD-TYPE-MOTION, XENKBD-TYPE-KEY, XENKBD-TYPE-POS, XENKBD-TYPE-MTOUCH, XENKBD-MT-EV-DOWN, XENKBD-MT-EV-UP, XENKBD-MT-EV-MOTION, XENKBD-MT-EV-SYN, XENKBD-MT-EV-SHAPE, XENKBD-MT-EV-ORIENT}
+use Rattle.kbdif_events.specs.Types.{XENKBD-TYPE-MOTION, XENKBD-TYPE-KEY, XENKBD-TYPE-POS, XENKBD-TYPE-MTOUCH, XENKBD-MT-EV-DOWN}
+use Rattle.kbdif_events.specs.Types.{XENKBD-MT-EV-UP, XENKBD-MT-EV-MOTION, XENKBD-MT-EV-SYN, XENKBD-MT-EV-SHAPE, XENKBD-MT-EV-ORIENT}
 use Rattle.kbdif_events.specs.Event.{layoutOf, contactOf}
 use Rattle.kbdif_decode.specs.Reserved.{allZero, zeroOutside}
-use Rattle.kbdif_decode.specs.Decode.{Decoded, Event, Refused, i32At, i16At, lookup, touchAt, eventAt, extentOf, reservedIsZero, pressedAboveOne, answered, decoded}
+use Rattle.kbdif_decode.specs.Decode.{Decoded, Event, Refused, i32At, i16At, lookup, touchAt, eventAt, extentOf, reservedIsZero}
+use Rattle.kbdif_decode.specs.Decode.{pressedAboveOne, answered, decoded}
 
 -- an event, or 9
 unfoldable pub judged : Bool → RingEvent → Decoded

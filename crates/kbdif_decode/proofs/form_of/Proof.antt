@@ -8,7 +8,8 @@ use Rattle.kbdif_events.specs.Event.{eventLength, between}
 use Rattle.kbdif_decode.specs.Reserved.{allZero}
 use Rattle.kbdif_decode.specs.Form.{formOf}
 use Rattle.kbdif_decode.proofs.Laws.Judged.{other-found}
-use Rattle.kbdif_decode.proofs.Laws.Form.{told, Lent, OtherType, other-type, pointer-type, no-type, other-spoiled, pointer-form, key-form}
+use Rattle.kbdif_decode.proofs.Laws.Form.{told, Lent, OtherType, other-type, pointer-type, no-type, other-spoiled, pointer-form}
+use Rattle.kbdif_decode.proofs.Laws.Form.{key-form}
 use borrow.Author.Needs.{needs}
 use Rattle.kbdif_decode.proofs.form_of.Statement.{statement}
 use Rattle.kbdif_decode.proofs.form_of.Tie as tie

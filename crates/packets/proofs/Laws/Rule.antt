@@ -38,7 +38,8 @@ pub record Accepted (geometry : Geometry) (device : Device) (area page : List �
   pub few : eventCount packet ≤ mostEvents
   pub offered : allOffered (entryAt geometry page slot) (eventsOf packet) ≡ true
   pub read-inside : readPointer area < ringLength geometry
-  pub room : hasRoom (ringOf geometry) (readPointer area) (device .producer .«write_index») (length (packetRecords device slot packet)) ≡ true
+  pub room : hasRoom (ringOf geometry) (readPointer area) (device .producer .«write_index»)
+      (length (packetRecords device slot packet)) ≡ true
 
 module _ (geometry : Geometry) (device : Device) (area page : List ℕ) (slot : ℕ) (packet : List ℕ) where
   pub accepted : packetAnswer geometry device area page slot packet ≡ 0 → Accepted geometry device area page slot packet
@@ -87,12 +88,14 @@ module _ (geometry : Geometry) (device : Device) (area page : List ℕ) (slot : 
       (o ∙ rw (← judged, ne-eqb answer 0 a, ne-eqb answer 10 b, ne-eqb answer 7 c), rw (← judged, ne-eqb answer 0 a))
 
   -- a bad read pointer
-  pub packet-lost-index : answer ≡ 10 → outcome ≡ outcomeOf answer (withLost true device) → Promise geometry device area page slot packet outcome area
+  pub packet-lost-index : answer ≡ 10 → outcome ≡ outcomeOf answer (withLost true device)
+      → Promise geometry device area page slot packet outcome area
   unfolding packetOf
   packet-lost-index e o = (o ∙ rw (← judged, e), rw (← judged, e))
 
   -- too little room
-  pub packet-lost-room : answer ≡ 7 → outcome ≡ outcomeOf answer (withLost true device) → Promise geometry device area page slot packet outcome area
+  pub packet-lost-room : answer ≡ 7 → outcome ≡ outcomeOf answer (withLost true device)
+      → Promise geometry device area page slot packet outcome area
   unfolding packetOf
   packet-lost-room e o = (o ∙ rw (← judged, e), rw (← judged, e))
 

@@ -44,7 +44,8 @@ formed c =
     let second = third .before .before in
     let first = second .before .before in
     in-form _ _ _ _ _ _ (valid first) (not-false _ (second .if2 .left))
-    (sym (third .before .is-taken .ensures) ∙ not-false _ (third .if3 .left)) (le-ltb _ _ (c .before .if4 .left)) (le-ltb _ _ (c .if5 .left))
+    (sym (third .before .is-taken .ensures) ∙ not-false _ (third .if3 .left)) (le-ltb _ _ (c .before .if4 .left))
+    (le-ltb _ _ (c .if5 .left))
 
 -- the entry's known bytes lie in the page
 inside : (c : tie.After-entry-place) → let first = c .before .before .before .before .before .before .before in

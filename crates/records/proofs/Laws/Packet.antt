@@ -59,7 +59,8 @@ module _ (ring : Ring) (index : ℕ) (events : List Event) (start : List ℕ) wh
         ends = rw (add-one, moved) (rw (drop-cons events i none low) at (turn .ends));
       }
 
-  pub turn-ends : {area : List ℕ} {at i : ℕ} → Turn ring index events start area at i → length events ≤ i → Put ring index events start area at
+  pub turn-ends : {area : List ℕ} {at i : ℕ} → Turn ring index events start area at i → length events ≤ i
+      → Put ring index events start area at
   unfolding putRecords indexAfter
   turn-ends {i = i} turn h =
       let over : drop i events ≡ [] = drop-of-length-le events {i = i} h in

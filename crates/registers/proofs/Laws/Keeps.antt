@@ -51,13 +51,15 @@ module _ (geometry : Geometry) (device : Device) (keeps : Rules geometry device)
     switch-keeps may =
         let s = sizes geometry sized in
         rw (always-starts geometry device sized area (bit value 1))
-        (rules-write-index (rules-producer (rules-control keeps true (bit value 1) (λ on. may)) freshProducer (omega (arith, s)) (none-current (device .taken)))
+        (rules-write-index
+        (rules-producer (rules-control keeps true (bit value 1) (λ on. may)) freshProducer (omega (arith, s)) (none-current (device .taken)))
         _ (after-inside (ringOf geometry) 0 (startRecords geometry device) (omega (arith, s))))
 
     control-keeps : Rules geometry (controlOf geometry device area value .outcome .device)
     unfolding controlOf
     control-keeps =
-        either (λ (r : Result). Rules geometry (r .outcome .device)) (bit value 0 && (mayRun (device .registers) && not (device .registers .on)))
+        either (λ (r : Result). Rules geometry (r .outcome .device))
+        (bit value 0 && (mayRun (device .registers) && not (device .registers .on)))
         (λ on. switch-keeps (both _ _ (both (bit value 0) _ on .1) .0))
         (λ on. rules-control keeps _ (bit value 1) (on-if-may (bit value 0) (mayRun (device .registers))))
 
@@ -81,8 +83,10 @@ module _ (geometry : Geometry) (device : Device) (keeps : Rules geometry device)
       → Rules geometry (writeOf geometry device area pageSize offset width value .outcome .device)
   unfolding writeOf
   write-keeps area pageSize offset width value =
-      either (λ (r : Result). Rules geometry (r .outcome .device)) (eqb (accessAnswer geometry device (length area) pageSize true offset width) 0)
-      (λ done. effect-keeps (granted _ _ _ _ _ _ _ (eqb-true _ 0 done) .is-call .is-allowed) area value (placeOf geometry offset)) (λ refused. keeps)
+      either (λ (r : Result). Rules geometry (r .outcome .device))
+      (eqb (accessAnswer geometry device (length area) pageSize true offset width) 0)
+      (λ done. effect-keeps (granted _ _ _ _ _ _ _ (eqb-true _ 0 done) .is-call .is-allowed) area value (placeOf geometry offset))
+      (λ refused. keeps)
 
 -- ---- the event area's length
 

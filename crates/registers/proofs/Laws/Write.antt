@@ -35,7 +35,8 @@ module _ (geometry : Geometry) (device : Device) (area : List ℕ) (value : ℕ)
 
   module _ (set : first ≡ true) where
     -- it may not run, so bit 0 stays 0
-    pub control-stays-off : mayRun (device .registers) ≡ false → {outcome : Outcome} → outcome ≡ outcomeOf 0 (withControl false second device)
+    pub control-stays-off : mayRun (device .registers) ≡ false → {outcome : Outcome}
+        → outcome ≡ outcomeOf 0 (withControl false second device)
         → Leaves outcome area (controlOf geometry device area value)
     unfolding controlOf
     control-stays-off r o = (o ∙ rw (← on, set, r, interrupts), rw (← on, set, r))

@@ -14,7 +14,9 @@ same-length : tie.Need-same-length
 same-length c = search needs
 
 returns : tie.Need-returns
-returns c = let read = c .before .before .before .before .before .before in c .before .before .set-write-pointer .ensures ∙ rw (read .set-read-pointer .ensures)
+returns c =
+    let read = c .before .before .before .before .before .before in
+    c .before .before .set-write-pointer .ensures ∙ rw (read .set-read-pointer .ensures)
 
 pub clear-pointers-spec : {M : Type 1} → statement M
 clear-pointers-spec =

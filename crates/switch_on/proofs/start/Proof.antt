@@ -68,7 +68,8 @@ returns-2 c =
     let a = ring .before .before .args in
     starts (a .geometry) (a .device) (a .area .now) (a .interrupts) (count .taken-count .ensures ∙ rw (count .before .slot-count .ensures))
     (rw (ring .ring-of .ensures) at (test .if1 .left)) (cleared .clear-pointers .ensures)
-    (rw (count .before .slot-count .ensures, ring .ring-of .ensures) at (c .before .before .before .put-start .ensures)) (c .switched .ensures)
+    (rw (count .before .slot-count .ensures, ring .ring-of .ensures) at (c .before .before .before .put-start .ensures))
+    (c .switched .ensures)
 
 pub start-spec : {M : Type 1} → statement M
 start-spec =

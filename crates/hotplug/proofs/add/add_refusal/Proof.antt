@@ -42,7 +42,13 @@ unfolding addAnswer firstRefusal
 returns-3 c =
     let second = c .before .before in
     let first = second .before .before in
-    rw (← first .before .is-valid-call .ensures, first .if1 .left, eq-eqb _ _ (second .if2 .left), ← c .before .is-slot .ensures, c .if3 .taken)
+    rw (
+      ← first .before .is-valid-call .ensures,
+      first .if1 .left,
+      eq-eqb _ _ (second .if2 .left),
+      ← c .before .is-slot .ensures,
+      c .if3 .taken,
+    )
 
 is-taken-requires : tie.Need-is-taken-requires
 is-taken-requires c κs = search needs
@@ -122,7 +128,10 @@ returns-6 c =
       fifth .if5 .left,
     )
     (c .room-refusal .ensures
-    ∙ rw (c .before .before .bit-of .ensures .0 ∙ records-if (a .device .registers .on) (devRecord DEV-CONF (a .slot)), c .before .ring-of .ensures))
+    ∙ rw (
+      c .before .before .bit-of .ensures .0 ∙ records-if (a .device .registers .on) (devRecord DEV-CONF (a .slot)),
+      c .before .ring-of .ensures,
+    ))
 
 pub add-refusal-spec : {M : Type 1} → statement M
 add-refusal-spec =

@@ -32,7 +32,8 @@ returns : tie.Need-returns
 returns c =
     let judged = c .before .before in
     let a = judged .before .before .before .before .before .before .args in
-    add-refused (a .geometry) (a .device) (a .area .now) (a .page .now) (a .slot) (c .before .if1 .taken) (c .answered .ensures) (a .entry .now)
+    add-refused (a .geometry) (a .device) (a .area .now) (a .page .now) (a .slot) (c .before .if1 .taken) (c .answered .ensures)
+    (a .entry .now)
     (judged .add-refusal .ensures)
 
 write-entry-requires : tie.Need-write-entry-requires

@@ -51,7 +51,10 @@ returns-3 c =
     let a = first .before .before .before .before .args in
     rw (← first .before .is-valid-call .ensures, first .if1 .left, ← second .before .is-taken .ensures, second .if2 .left)
     (c .room-refusal .ensures
-    ∙ rw (c .before .before .bit-of .ensures .0 ∙ records-if (a .device .registers .on) (devRecord DEV-RESET (a .slot)), c .before .ring-of .ensures))
+    ∙ rw (
+      c .before .before .bit-of .ensures .0 ∙ records-if (a .device .registers .on) (devRecord DEV-RESET (a .slot)),
+      c .before .ring-of .ensures,
+    ))
 
 pub remove-refusal-spec : {M : Type 1} → statement M
 remove-refusal-spec =

@@ -45,7 +45,8 @@ returns-3 c =
     let bits = may .before .before in
     let a = bits .before .before .before .args in
     control-stays-on (a .geometry) (a .device) (a .area .now) (a .value) (bits .is-set2 .ensures) (bits .before .is-set .ensures)
-    (not-false _ (may .before .if1 .left)) (sym (may .may-run .ensures) ∙ not-false _ (c .before .before .if2 .left)) (c .before .if3 .taken)
+    (not-false _ (may .before .if1 .left)) (sym (may .may-run .ensures) ∙ not-false _ (c .before .before .if2 .left))
+    (c .before .if3 .taken)
     (c .hold-control3 .ensures)
 
 start-requires : tie.Need-start-requires
