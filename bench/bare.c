@@ -3,6 +3,7 @@
  * by one until the ring is full, and nothing is tested: no length, no state, no slot, no offer, no reserved byte.
  */
 #include "contestant.h"
+#include "encode.h"
 #include "words.h"
 
 #include "thayarqo_codes.h"
@@ -121,44 +122,10 @@ struct thayarqo_copied bare_copy_out(struct thayarqo_geometry geometry, uint8_t 
     return (struct thayarqo_copied){count == 0 ? THAYARQO_NOTHING_TO_READ : THAYARQO_DONE, count};
 }
 
-static void encode_touch(uint8_t *out, const struct thayarqo_ring_event *touch)
-{
-    out[1] = touch->subtype;
-    out[2] = touch->contact;
-    switch (touch->subtype) {
-    case THAYARQO_TOUCH_DOWN:
-    case THAYARQO_TOUCH_MOTION:
-        store_u32(out + 8, (uint32_t)touch->x);
-        store_u32(out + 12, (uint32_t)touch->y);
-        break;
-    case THAYARQO_TOUCH_SHAPE:
-        store_u32(out + 8, touch->major);
-        store_u32(out + 12, touch->minor);
-        break;
-    case THAYARQO_TOUCH_ORIENT:
-        store_u16(out + 8, (uint16_t)touch->orientation);
-    }
-}
-
 uint8_t bare_ring_encode(uint8_t *out, size_t out_length, struct thayarqo_ring_event event)
 {
     (void)out_length;
-    memset(out, 0, EVENT_LENGTH);
-    out[0] = event.kind;
-    switch (event.kind) {
-    case THAYARQO_RING_MOTION:
-    case THAYARQO_RING_POSITION:
-        store_u32(out + 4, (uint32_t)event.x);
-        store_u32(out + 8, (uint32_t)event.y);
-        store_u32(out + 12, (uint32_t)event.z);
-        break;
-    case THAYARQO_RING_KEY:
-        out[1] = event.pressed;
-        store_u32(out + 4, event.keycode);
-        break;
-    case THAYARQO_RING_TOUCH:
-        encode_touch(out, &event);
-    }
+    encode_event(out, &event);
     return THAYARQO_DONE;
 }
 

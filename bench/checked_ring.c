@@ -1,5 +1,6 @@
 /* The keyboard ring in plain C, with every test of the rules. */
 #include "contestant.h"
+#include "encode.h"
 #include "words.h"
 
 enum { PAGE_LENGTH = 4096, EVENT_LENGTH = 40, IN_CONS = 0, IN_PROD = 4, EVENTS = 1024, RING_LENGTH = 51 };
@@ -98,43 +99,13 @@ static bool is_known(const struct thayarqo_ring_event *event)
     }
 }
 
-static void encode_touch(uint8_t *out, const struct thayarqo_ring_event *touch)
-{
-    out[1] = touch->subtype;
-    out[2] = touch->contact;
-    switch (touch->subtype) {
-    case THAYARQO_TOUCH_DOWN:
-    case THAYARQO_TOUCH_MOTION:
-        store_u32(out + 8, (uint32_t)touch->x);
-        store_u32(out + 12, (uint32_t)touch->y);
-        break;
-    case THAYARQO_TOUCH_SHAPE:
-        store_u32(out + 8, touch->major);
-        store_u32(out + 12, touch->minor);
-        break;
-    case THAYARQO_TOUCH_ORIENT:
-        store_u16(out + 8, (uint16_t)touch->orientation);
-    }
-}
-
 uint8_t checked_ring_encode(uint8_t *out, size_t out_length, struct thayarqo_ring_event event)
 {
     if (out_length != EVENT_LENGTH)
         return THAYARQO_INVALID;
     if (!is_known(&event))
         return THAYARQO_MALFORMED;
-    memset(out, 0, EVENT_LENGTH);
-    out[0] = event.kind;
-    if (event.kind == THAYARQO_RING_TOUCH) {
-        encode_touch(out, &event);
-    } else if (event.kind == THAYARQO_RING_KEY) {
-        out[1] = event.pressed;
-        store_u32(out + 4, event.keycode);
-    } else {
-        store_u32(out + 4, (uint32_t)event.x);
-        store_u32(out + 8, (uint32_t)event.y);
-        store_u32(out + 12, (uint32_t)event.z);
-    }
+    encode_event(out, &event);
     return THAYARQO_DONE;
 }
 
