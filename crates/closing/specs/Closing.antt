@@ -26,9 +26,13 @@ isRaw settings = (settings .«feature_raw_pointer» && settings .«request_raw_p
 unfoldable pub isScaled : Settings → Bool
 isScaled settings = isAbsolute settings && not (isRaw settings)
 
+-- The most contacts of a touch panel.
+abbrev pub mostContacts : ℕ
+mostContacts = 32
+
 -- There are 1 to 32 contacts.
 abbrev pub hasContacts : Parameter → Bool
-hasContacts contacts = contacts .given && (leb 1 (contacts .value) && leb (contacts .value) 32)
+hasContacts contacts = contacts .given && (leb 1 (contacts .value) && leb (contacts .value) mostContacts)
 
 abbrev pub lacks : Bool → Bool → Bool
 lacks needed had = needed && not had

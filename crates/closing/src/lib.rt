@@ -14,6 +14,9 @@ enum Lack {
     Of(NumberName),
 }
 
+// The most contacts of a touch panel.
+const MOST_CONTACTS: u32 = 32;
+
 #[repr(C)]
 pub struct Closed {
     pub answer: u8,
@@ -71,7 +74,7 @@ fn has_contacts(contacts: Parameter) -> bool
     if contacts.value < 1 {
         return false;
     }
-    contacts.value <= 32
+    contacts.value <= MOST_CONTACTS
 }
 
 fn is_lacking(needed: bool, had: bool) -> bool

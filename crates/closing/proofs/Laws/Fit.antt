@@ -12,12 +12,13 @@ use Rattle.nodes.specs.declared.Parameter.{Parameter}
 use Rattle.nodes.specs.declared.Settings.{Settings}
 use Rattle.closing.specs.declared.Lack.{Lack}
 use Rattle.closing.specs.declared.Closed.{Closed}
-use Rattle.closing.specs.Closing.{isAbsolute, isMultiTouch, hasContacts, lacks, lackTests, firstLack, numberOf, closedAs, unlessLacking, closeSettings}
+use Rattle.closing.specs.Closing.{isAbsolute, isMultiTouch, mostContacts, hasContacts, lacks, lackTests, firstLack}
+use Rattle.closing.specs.Closing.{numberOf, closedAs, unlessLacking, closeSettings}
 
 -- Raw is absolute too, and multi-touch has 1 to 32 contacts. A refusal has neither mode.
 pub record Fit (closed : Closed) : Type 0 where
   pub raw-is-absolute : closed .raw ≡ true → closed .absolute ≡ true
-  pub contacts-allowed : closed .«multi_touch» ≡ true → (1 ≤ closed .contacts) × (closed .contacts ≤ 32)
+  pub contacts-allowed : closed .«multi_touch» ≡ true → (1 ≤ closed .contacts) × (closed .contacts ≤ mostContacts)
 
 -- a lack that was passed over isn't there
 passed : (lack : Bool) (name : NumberName) (rest : List (Bool × NumberName)) → firstLack ((lack, name) ∷ rest) ≡ Lack.Nothing
@@ -30,11 +31,11 @@ not-lacking : (needed had : Bool) → lacks needed had ≡ false → needed ≡ 
 not-lacking needed true h on = refl
 not-lacking needed false h on = absurd (true≢false (rw on at h))
 
-allowed : (contacts : Parameter) → hasContacts contacts ≡ true → (1 ≤ numberOf contacts) × (numberOf contacts ≤ 32)
+allowed : (contacts : Parameter) → hasContacts contacts ≡ true → (1 ≤ numberOf contacts) × (numberOf contacts ≤ mostContacts)
 allowed contacts h =
-    let parts = both (contacts .given) (leb 1 (contacts .value) && leb (contacts .value) 32) h in
-    let range = both (leb 1 (contacts .value)) (leb (contacts .value) 32) (parts .1) in
-    rw (parts .0) (leb-true 1 (contacts .value) (range .0), leb-true (contacts .value) 32 (range .1))
+    let parts = both (contacts .given) (leb 1 (contacts .value) && leb (contacts .value) mostContacts) h in
+    let range = both (leb 1 (contacts .value)) (leb (contacts .value) mostContacts) (parts .1) in
+    rw (parts .0) (leb-true 1 (contacts .value) (range .0), leb-true (contacts .value) mostContacts (range .1))
 
 contacts-there : (settings : Settings) → firstLack (lackTests settings) ≡ Lack.Nothing → isMultiTouch settings ≡ true → hasContacts (settings .contacts) ≡ true
 contacts-there settings h on =

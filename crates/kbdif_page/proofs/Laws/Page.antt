@@ -14,7 +14,8 @@ use Rattle.words.specs.Words.{u32Bytes}
 use Rattle.copying.proofs.Laws.Overwrite.{overwrite-length, overwrite-inside, overwrite-before, overwrite-after}
 use Rattle.words.proofs.Laws.Word.{agree-u32, u32-back}
 use Rattle.kbdif_events.specs.Event.{eventLength, between}
-use Rattle.kbdif_page.specs.Page.{pageLength, ringLength, inConsOf, inProdOf, withInCons, withInProd, eventPlace, eventBytesAt, isContactLimit}
+use Rattle.kbdif_page.specs.Page.{pageLength, ringLength, inConsOf, inProdOf, withInCons, withInProd, eventPlace, eventBytesAt}
+use Rattle.kbdif_page.specs.Page.{mostContacts, isContactLimit}
 
 -- ---- stretches
 
@@ -49,11 +50,11 @@ overwrite-between bytes at stretch h =
 
 pub limit-positive : (limit : ℕ) → isContactLimit limit ≡ true → 1 ≤ limit
 unfolding isContactLimit
-limit-positive limit h = leb-true 1 limit (and-eq-true-iff (leb 1 limit) (leb limit 32) .0 h .0)
+limit-positive limit h = leb-true 1 limit (and-eq-true-iff (leb 1 limit) (leb limit mostContacts) .0 h .0)
 
-pub limit-small : (limit : ℕ) → isContactLimit limit ≡ true → limit ≤ 32
+pub limit-small : (limit : ℕ) → isContactLimit limit ≡ true → limit ≤ mostContacts
 unfolding isContactLimit
-limit-small limit h = leb-true limit 32 (and-eq-true-iff (leb 1 limit) (leb limit 32) .0 h .1)
+limit-small limit h = leb-true limit mostContacts (and-eq-true-iff (leb 1 limit) (leb limit mostContacts) .0 h .1)
 
 -- ---- places
 
