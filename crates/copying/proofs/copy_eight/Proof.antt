@@ -28,12 +28,15 @@ same-length c = search needs
 
 returns : tie.Need-returns
 returns c =
-    let start = c .before .before .before .before .before .before .before .before .before .before .before .before in
-    let low = c .before .before .before .before .before .before .before .before .before .four-at in
-    let high = c .before .before .before .before .before .before .before .before .four-at2 in
+    let wrote = c .before .before .before .before .before .before in
+    let read = wrote .before .before in
+    let start = read .before .before .before .before in
+    let low = read .before .four-at in
+    let high = read .four-at2 in
     c .before .before .write-four2 .ensures
-    ∙ ap (λ (bytes : List ℕ). overwrite bytes (start .args .at + 4) (fourBytes (high .result))) (c .before .before .before .before .before .before .write-four .ensures)
-    ∙ eight-written (start .args .bytes .now) (start .args .at) (start .args .source .now) _ _ (start .pre .0) (start .pre .1) (low .ensures) (high .ensures)
+    ∙ ap (λ (bytes : List ℕ). overwrite bytes (start .args .at + 4) (fourBytes (high .result))) (wrote .write-four .ensures)
+    ∙ eight-written (start .args .bytes .now) (start .args .at) (start .args .source .now) _ _ (start .pre .0) (start .pre .1)
+    (low .ensures) (high .ensures)
 
 pub copy-eight-spec : {M : Type 1} → statement M
 copy-eight-spec =

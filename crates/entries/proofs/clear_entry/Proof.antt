@@ -40,8 +40,10 @@ same-length : tie.Need-same-length
 same-length c = search needs
 
 returns : tie.Need-returns
-returns c = let s = c .before .before .before .before .before .before .before in
-    entry-cleared (s .args .geometry) (s .args .page .now) (s .args .slot) (c .before .before .before .before .before .entry-place .ensures) (inside (c .before .before .before .before)) (c .before .before .clear .ensures)
+returns c =
+    let part = c .before .before .before .before in
+    let a = part .before .before .before .args in
+    entry-cleared (a .geometry) (a .page .now) (a .slot) (part .before .entry-place .ensures) (inside part) (c .before .before .clear .ensures)
 
 pub clear-entry-spec : {M : Type 1} → statement M
 clear-entry-spec =

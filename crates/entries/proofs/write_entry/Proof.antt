@@ -40,8 +40,11 @@ same-length : tie.Need-same-length
 same-length c = search needs
 
 returns : tie.Need-returns
-returns c = let s = c .before .before .before .before .before .before .before .before in
-    entry-stored (s .args .geometry) (s .args .page .now) (s .args .slot) (c .before .before .before .before .before .entry-place .ensures) (inside (c .before .before .before .before)) (s .args .entry .now) (s .pre .1 .1) (c .before .before .copy .ensures)
+returns c =
+    let part = c .before .before .before .before in
+    let s = part .before .before .before .before in
+    entry-stored (s .args .geometry) (s .args .page .now) (s .args .slot) (part .before .entry-place .ensures) (inside part)
+    (s .args .entry .now) (s .pre .1 .1) (c .before .before .copy .ensures)
 
 pub write-entry-spec : {M : Type 1} → statement M
 write-entry-spec =

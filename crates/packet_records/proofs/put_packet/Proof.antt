@@ -42,7 +42,8 @@ same-length c = search needs
 returns : tie.Need-returns
 returns c =
     let report = c .before .before .put-record .ensures in
-    let events = c .before .before .before .before .before .before .before in
+    let last = c .before .before .before in
+    let events = last .before .before .before .before in
     let set = events .before .before .before .before in
     let lost = set .before .before .before .before in
     let ring = lost .before .before .before .before .args .ring in

@@ -34,7 +34,8 @@ known c = call _ _ _ _ (both _ _ (valid c) .0)
 
 -- the entry and the room are left
 formed : (c : tie.Else5) → let second = c .before .before .before .before in
-    let a = second .before .before .before .before .before .before .before .args in
+    let first = second .before .before in
+    let a = first .before .before .before .before .before .args in
     packetAnswer (a .geometry) (a .device) (a .area .now) (a .page .now) (a .slot) (a .packet .now)
     ≡ firstRefusal ((not (allOffered (entryAt (a .geometry) (a .page .now) (a .slot)) (eventsOf (a .packet .now))), notOffered)
     ∷ roomRefusals (ringOf (a .geometry)) (a .area .now) (a .device .producer .«write_index»)
@@ -48,7 +49,8 @@ formed c =
     (le-ltb _ _ (c .if5 .left))
 
 -- the entry's known bytes lie in the page
-inside : (c : tie.After-entry-place) → let first = c .before .before .before .before .before .before .before in
+inside : (c : tie.After-entry-place) → let third = c .before .before .before in
+    let first = third .before .before .before .before in
     c .entry-place .result + 68 ≤ length (first .before .before .before .before .before .args .page .now)
 inside c =
     let third = c .before .before .before in
@@ -137,7 +139,8 @@ returns-6 : tie.Need-returns-6
 unfolding firstRefusal
 returns-6 c =
     let entry = c .before .before .before in
-    let first = entry .before .before .before .before .before .before .before in
+    let third = entry .before .before .before in
+    let first = third .before .before .before .before in
     rw (
       formed (entry .before),
       ← known-part (first .before .before .before .before .before .args .geometry) _ _ (entry .entry-place .ensures),
@@ -149,12 +152,14 @@ record-count-requires c κs = search needs
 
 ring-of-requires : tie.Need-ring-of-requires
 ring-of-requires c κs =
-    let third = c .before .before .before .before .before .before .before in
+    let entry = c .before .before .before .before in
+    let third = entry .before .before .before in
     known (third .before .before .before .before) .is-allowed
 
 room-refusal-requires : tie.Need-room-refusal-requires
 room-refusal-requires c κs =
-    let third = c .before .before .before .before .before .before .before .before in
+    let entry = c .before .before .before .before .before in
+    let third = entry .before .before .before in
     let k = known (third .before .before .before .before) in
     rw (c .ring-of .ensures) (k .holds, k .keeps .write-inside)
 
@@ -163,7 +168,8 @@ unfolding firstRefusal
 returns-7 c =
     let offer = c .before .before .before in
     let entry = offer .before .before .before in
-    let first = entry .before .before .before .before .before .before .before in
+    let third = entry .before .before .before in
+    let first = third .before .before .before .before in
     rw (
       formed (entry .before),
       ← known-part (first .before .before .before .before .before .args .geometry) _ _ (entry .entry-place .ensures),

@@ -17,7 +17,11 @@ same-length : tie.Need-same-length
 same-length c = search needs
 
 returns : tie.Need-returns
-returns c = rw (c .before .before .write-u32 .ensures, c .before .before .before .before .before .before .write-u162 .ensures, c .before .before .before .before .before .before .before .before .before .before .write-u16 .ensures) (fields-written _ _ (c .before .before .before .before .before .before .before .before .before .before .before .before .before .pre))
+returns c =
+    let code = c .before .before .before .before .before .before in
+    let kind = code .before .before .before .before in
+    rw (c .before .before .write-u32 .ensures, code .write-u162 .ensures, kind .write-u16 .ensures)
+    (fields-written _ _ (kind .before .before .before .pre))
 
 pub encode-spec : {M : Type 1} → statement M
 encode-spec =

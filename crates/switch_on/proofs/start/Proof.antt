@@ -61,7 +61,8 @@ same-length c = search needs
 
 returns-2 : tie.Need-returns-2
 returns-2 c =
-    let cleared = c .before .before .before .before .before .before .before in
+    let put = c .before .before .before in
+    let cleared = put .before .before .before .before in
     let test = cleared .before .before in
     let count = test .before .before in
     let ring = count .before .before in

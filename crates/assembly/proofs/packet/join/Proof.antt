@@ -43,8 +43,9 @@ same-length c = search needs
 
 returns-3 : tie.Need-returns-3
 returns-3 c =
-    let a = c .before .before .before .before .before .before .before .args in
-    join-free (a .driver) (a .event) (a .packet .now) (c .before .before .before .before .before .if1 .left) (c .before .before .before .before .if2 .left)
+    let free = c .before .before .before .before in
+    let a = free .before .before .before .args in
+    join-free (a .driver) (a .event) (a .packet .now) (free .before .if1 .left) (free .if2 .left)
     (lent-part (a .packet .now) (a .driver .held * 8) 8 (sym (event-length (a .event))) (c .before .before .encode .ensures))
 
 pub join-spec : {M : Type 1} → statement M

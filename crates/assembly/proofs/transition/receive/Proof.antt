@@ -93,8 +93,10 @@ tell-requires-9 c κs = search needs
 
 returns : tie.Need-returns
 returns c =
-    let a = c .before .before .before .before .before .before .before .args in
-    none-joins (a .geometry) (a .event) (a .driver) (a .packet .now) kind.SynReport (sym (c .before .before .before .before .before .kind-of .ensures) ∙ c .before .before .before .enum-told .given .1) zero-le
+    let arm = c .before .before .before in
+    let a = arm .before .before .before .before .args in
+    none-joins (a .geometry) (a .event) (a .driver) (a .packet .now) kind.SynReport
+    (sym (arm .before .before .kind-of .ensures) ∙ arm .enum-told .given .1) zero-le
     (c .tell .ensures ∙ rw (c .before .before .report .ensures, c .before .end .ensures))
 
 returns-2 : tie.Need-returns-2
@@ -145,7 +147,8 @@ same-length c = search needs
 returns-9 : tie.Need-returns-9
 returns-9 c =
     let joins = c .before .before .before .join .ensures in
-    rw (sym (c .before .before .before .before .before .before .before .kind-of .ensures) ∙ c .before .before .before .before .before .enum-told9 .given .1)
+    let arm = c .before .before .before .before .before in
+    rw (sym (arm .before .before .kind-of .ensures) ∙ arm .enum-told9 .given .1)
     (c .tell9 .ensures ∙ rw (joins .0), joins .1)
 
 pub receive-spec : {M : Type 1} → statement M

@@ -8,11 +8,13 @@ use Rattle.hotplug.proofs.add.add_rule.Statement.{statement}
 use Rattle.hotplug.proofs.add.add_rule.Tie as tie
 
 -- an add that goes on is accepted
-none : (c : tie.Else1) → let a = c .before .before .before .before .before .before .before .args in
+none : (c : tie.Else1) → let judged = c .before in
+    let a = judged .before .before .before .before .before .before .args in
     addAnswer (a .geometry) (a .device) (a .area .now) (a .page .now) (a .slot) (a .entry .now) ≡ 0
 none c = sym (c .before .add-refusal .ensures) ∙ c .if1 .left
 
-accepted : (c : tie.Else1) → let a = c .before .before .before .before .before .before .before .args in
+accepted : (c : tie.Else1) → let judged = c .before in
+    let a = judged .before .before .before .before .before .before .args in
     AddAccepted (a .geometry) (a .device) (a .area .now) (a .page .now) (a .slot) (a .entry .now)
 accepted c = add-accepted _ _ _ _ _ _ (none c)
 
