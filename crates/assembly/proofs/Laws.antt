@@ -1,4 +1,3 @@
--- By subject: which events are held after a record, how many they are, and runs that follow one another.
+-- By subject: which events are held after a record, and how many they are.
 pub mod Collect
 pub mod Held
-pub mod Run

@@ -6,7 +6,7 @@ use lib.Dec.{ltb}
 use Rattle.copying.specs.Copying.{overwrite}
 use Rattle.geometry.specs.declared.Geometry.{Geometry}
 use Rattle.records.specs.declared.Event.{Event}
-use Rattle.records.specs.Event.{mostEvents, eventBytes, eventsFrom}
+use Rattle.records.specs.Event.{mostEvents, eventBytes}
 use Rattle.assembly.specs.declared.Driver.{Driver}
 use Rattle.assembly.specs.Transition.{receive}
 
@@ -15,16 +15,13 @@ packetLength = mostEvents * 8
 
 -- An event that joined the packet, so that one more is held, stands behind the others. No other byte changes.
 unfoldable pub collected : Driver → Driver → Event → List ℕ → List ℕ
-collected before after event packet = cond (ltb (before .held) (after .held)) (overwrite packet (before .held * 8) (eventBytes event)) packet
+collected before after event packet =
+    cond (ltb (before .held) (after .held)) (overwrite packet (before .held * 8) (eventBytes event)) packet
 
 -- A driver with its buffer.
 pub record Collector : Type 0 where
   pub driver : Driver
   pub packet : List ℕ
-
--- The events that it holds.
-abbrev pub eventsHeld : Collector → List Event
-eventsHeld collector = eventsFrom (collector .packet) 0 (collector .driver .held)
 
 -- One record.
 abbrev pub collect : Geometry → Event → Collector → Collector

@@ -1,4 +1,3 @@
 pub mod Kind
 pub mod Transition
 pub mod Collect
-pub mod Run

@@ -20,12 +20,16 @@ use Rattle.assembly.specs.declared.Kind.{Kind}
 use Rattle.assembly.specs.declared.Kind.the-variants as kind
 use Rattle.assembly.specs.Kind.{devKind, kindOf}
 use Rattle.assembly.specs.Transition.{withOneMore, spoiled, joined, reported, withoutSlot, ended, moved, received}
-use Rattle.assembly.specs.Collect.{packetLength, collected, Collector, eventsHeld, collect}
+use Rattle.assembly.specs.Collect.{packetLength, collected, Collector, collect}
 use Rattle.assembly.proofs.Laws.Held.{moved-held, without-held}
 use Rattle.assembly.proofs.Laws.Collect.{none-joined, joined-length, joined-events}
 use Rattle.hotplug.specs.Remove.{currentWithout}
 use Rattle.delivery.specs.Log.{Item, gap, whole, toldBy}
 use Rattle.delivery.specs.Pending.{give}
+
+-- The events that a driver holds.
+abbrev eventsHeld : Collector → List Event
+eventsHeld collector = eventsFrom (collector .packet) 0 (collector .driver .held)
 
 -- These events are held under a slot, and nothing is spoiled, too long or ignored.
 pub record Holding (slot : ℕ) (events : List Event) (collector : Collector) : Type 0 where

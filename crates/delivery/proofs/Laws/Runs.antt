@@ -1,6 +1,6 @@
 -- Runs of the driver over the records that calls put.
 use Prim.Native.Nat.{ℕ, _+_, _≤_, _<_}
-use mathlib.Core.Path.{_≡_, sym, ap, _∙_}
+use mathlib.Core.Path.{_≡_, sym, ap, subst, _∙_}
 use mathlib.Core.Bool.{Bool, true, false, false≢true}
 use mathlib.Core.List.{List, [], _∷_, _++_, append-nil, append-assoc}
 use native.Mathlib.Omega.{arith}
@@ -22,7 +22,7 @@ use Rattle.packets.specs.Packet.{allOffered}
 use Rattle.pending.proofs.Laws.Runs as runs
 use Rattle.delivery.specs.Log.{Item, whole, gapIf}
 use Rattle.delivery.specs.Pending.{give, driverReader}
-use Rattle.delivery.proofs.Laws.Holding.{Holding, Leads, dropping, join, report, drop-gives, drop-next, report-gap, set-slot}
+use Rattle.delivery.proofs.Laws.Holding.{Holding, Leads, join, report, drop-gives, drop-next, report-gap, set-slot}
 
 -- Over these records the driver gives these items, and ends holding these events.
 abbrev pub Runs : Geometry → Collector → List Event → List Item → ℕ → List Event → Type 0
@@ -91,16 +91,13 @@ module _ (geometry : Geometry) where
   lost-runs : (lost : Bool) {collector : Collector} {slot : ℕ} → Holding slot [] collector
       → Runs geometry collector (lostRecords lost) (gapIf lost) slot []
   lost-runs false h = none h
-  lost-runs true {collector} h =
+  lost-runs true {collector} {slot} h =
       let dropped = drop-next geometry collector in
       record {
-        end = collect geometry (synRecord SYN-REPORT) (dropping collector);
-        run = record {
-          ends = ap (collect geometry (synRecord SYN-REPORT)) dropped;
-          gives = rw (drop-gives geometry collector)
-              (append-nil _ ∙ ap (give geometry (synRecord SYN-REPORT)) dropped ∙ report-gap geometry h .gives);
-        };
-        settles = report-gap geometry h .held;
+        gives = rw (drop-gives geometry collector)
+            (append-nil _ ∙ ap (give geometry (synRecord SYN-REPORT)) dropped ∙ report-gap geometry h .gives);
+        settles = subst (λ (middle : Collector). Holding slot [] (collect geometry (synRecord SYN-REPORT) middle)) (sym dropped)
+            (report-gap geometry h .held);
       }
 
   set-runs : (current slot : ℕ) {collector : Collector} → slot < slotCount geometry → Holding current [] collector

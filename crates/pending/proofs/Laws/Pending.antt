@@ -51,14 +51,14 @@ module _ (reader : Reader) where
   module _ {ring : Ring} {area : List ℕ} {index : ℕ} {state : reader .State} {items : List (reader .Item)} {Settled : Claim reader}
       (h : Pending reader ring area index state items Settled) where
     pub pending-is : pendingFor reader ring area state ≡ items
-    pending-is = rw (h .same-write) (h .runs .run .gives)
+    pending-is = rw (h .same-write) (h .runs .gives)
 
     -- nothing is pending where nothing is unread
     pub pending-nothing : readPointer area ≡ writePointer area → items ≡ []
     pending-nothing e =
         let empty : unread ring area (readPointer area) index ≡ []
         = rw (← h .same-write, ← e) (none-unread ring area (readPointer area) (h .read-inside)) in
-        sym (rw empty at (h .runs .run .gives))
+        sym (rw empty at (h .runs .gives))
 
     -- another area with the same pointers and records
     pub pending-same : {after : List ℕ} → readPointer after ≡ readPointer area → writePointer after ≡ writePointer area
@@ -108,7 +108,7 @@ module _ (reader : Reader) where
       -- what is pending is what the reader gives for it, and what is pending afterwards
       pub read-gives : let after = reader .next (oldest ring area) state in
           reader .give (oldest ring area) state ++ pendingFor reader ring (movedOn ring area) after ≡ items
-      read-gives = rw (there, same-written) (rw drops at (h .runs .run .gives))
+      read-gives = rw (there, same-written) (rw drops at (h .runs .gives))
 
       pub pending-read : let after = reader .next (oldest ring area) state in
           Pending reader ring (movedOn ring area) index after (pendingFor reader ring (movedOn ring area) after) Settled
@@ -116,9 +116,5 @@ module _ (reader : Reader) where
         read-inside = rw there (next-inside ring (readPointer area) (h .read-inside));
         write-inside = h .write-inside;
         same-write = same-written;
-        runs = rw (there, same-written) (record {
-          end = h .runs .end;
-          run = record { ends = rw drops at (h .runs .run .ends); gives = refl };
-          settles = h .runs .settles;
-        });
+        runs = rw (there, same-written) (record { gives = refl; settles = rw drops at (h .runs .settles) });
       }
