@@ -17,8 +17,9 @@ ghost use lib.ListN.{length};
 ghost use Rattle.records.specs.Ring.{Holds};
 ghost use Rattle.device.specs.Call.{isValidPages, isValidBounds, isValidCall};
 ghost use Rattle.device.specs.Room.{roomRefusal};
+ghost use Rattle.device.specs.Result.{outcomeOf};
 
-// The registers that keep what is written to them.
+// What the registers remember.
 #[repr(C)]
 pub struct Registers {
     // CONTROL, bit 0.
@@ -34,11 +35,11 @@ pub struct Registers {
 // The device's end of the ring. A switch-on starts it anew.
 #[repr(C)]
 pub struct Producer {
-    // The lost mark: since the last packet that was put one was refused with 10 or 7.
+    // The lost mark: a packet was refused with 10 or 7 since the last one that was put, or since the switch-on.
     pub lost: bool,
     // The private write index. WRITE_PTR in the area is a copy for the guest.
     pub write_index: u32,
-    // The slot of the last packet; none after a switch-on, and after a remove of that slot.
+    // The slot of the last packet that was put; none after a switch-on, and after a remove of that slot.
     pub current_slot: u32,
 }
 
@@ -55,6 +56,15 @@ pub struct Device {
 pub struct Outcome {
     pub answer: u8,
     pub device: Device,
+}
+
+pub fn answered(answer: u8, device: Device) -> Outcome
+    ensures { λ r. ⌜ r ≡ outcomeOf answer device ⌝ }
+{
+    Outcome {
+        answer: answer,
+        device: device,
+    }
 }
 
 fn is_valid_pages(geometry: Geometry, area_size: usize, page_size: usize) -> bool

@@ -1,5 +1,4 @@
 // A device added to a slot.
-use crate::answered;
 use crate::put_if;
 use answers::BAD_SLOT;
 use answers::DONE;
@@ -7,6 +6,7 @@ use answers::INVALID;
 use answers::MALFORMED;
 use device::Device;
 use device::Outcome;
+use device::answered;
 use geometry::Geometry;
 use records::codes::DEV_CONF;
 use records::codes::dev_record;

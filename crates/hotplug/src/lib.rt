@@ -3,8 +3,6 @@ mod add;
 mod remove;
 
 pub use add::add_rule;
-use device::Device;
-use device::Outcome;
 use geometry::Ring;
 use records::Event;
 pub use remove::remove_rule;
@@ -13,7 +11,6 @@ ghost use Prim.Native.Nat.{_<_};
 ghost use lib.ListN.{length};
 ghost use Rattle.records.specs.Ring.{Holds};
 ghost use Rattle.records.specs.Put.{Put};
-ghost use Rattle.device.specs.Result.{outcomeOf};
 ghost use Rattle.hotplug.specs.Hotplug.{recordsIf};
 
 // Puts the record while the device is on, and answers the index of the next one.
@@ -25,13 +22,4 @@ pub(crate) fn put_if(ring: Ring, area: &mut [u8], index: u32, on: bool, event: E
         return index;
     }
     records::put_record(ring, area, index, event)
-}
-
-pub(crate) fn answered(answer: u8, device: Device) -> Outcome
-    ensures { λ r. ⌜ r ≡ outcomeOf answer device ⌝ }
-{
-    Outcome {
-        answer: answer,
-        device: device,
-    }
 }

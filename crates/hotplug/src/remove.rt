@@ -1,11 +1,11 @@
 // A device removed from its slot.
-use crate::answered;
 use crate::put_if;
 use answers::BAD_SLOT;
 use answers::DONE;
 use answers::INVALID;
 use device::Device;
 use device::Outcome;
+use device::answered;
 use geometry::Geometry;
 use records::codes::DEV_RESET;
 use records::codes::NO_SLOT;

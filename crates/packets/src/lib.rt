@@ -10,6 +10,7 @@ use answers::NOT_OFFERED;
 use device::Device;
 use device::Outcome;
 use device::Registers;
+use device::answered;
 use geometry::Geometry;
 use packet_records::put_packet;
 use packet_records::record_count;
@@ -19,7 +20,6 @@ ghost use mathlib.Core.Bool.{true, _||_};
 ghost use lib.ListN.{length};
 ghost use Rattle.records.specs.Packet.{eventsOf};
 ghost use Rattle.device.specs.Setters.{withLost};
-ghost use Rattle.device.specs.Result.{outcomeOf};
 ghost use Rattle.packets.specs.Packet.{allOffered};
 ghost use Rattle.packets.specs.Rule.{isValidPacketCall, packetAnswer, afterPacket, packetOf};
 
@@ -123,15 +123,6 @@ fn accept(device: Device, slot: u32, index: u32) -> Device
     after.producer.current_slot = slot;
     after.producer.lost = false;
     after
-}
-
-fn answered(answer: u8, device: Device) -> Outcome
-    ensures { λ r. ⌜ r ≡ outcomeOf answer device ⌝ }
-{
-    Outcome {
-        answer: answer,
-        device: device,
-    }
 }
 
 // Refuses in order, tests the room for all records, then puts them. The events are lent as bytes, so that none is copied before it is put.
