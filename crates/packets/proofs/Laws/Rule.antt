@@ -81,11 +81,11 @@ Promise geometry device area page slot packet outcome after =
 
 module _ (geometry : Geometry) (device : Device) (area page : List ℕ) (slot : ℕ) (packet : List ℕ) {answer : ℕ}
     (judged : answer ≡ packetAnswer geometry device area page slot packet) {outcome : Outcome} where
-  pub packet-refused : (answer ≡ 0 → ⊥) → (answer ≡ 10 → ⊥) → (answer ≡ 7 → ⊥) → outcome ≡ outcomeOf answer device
+  -- too little room
+  pub packet-lost-room : answer ≡ 7 → outcome ≡ outcomeOf answer (withLost true device)
       → Promise geometry device area page slot packet outcome area
   unfolding packetOf
-  packet-refused a b c o =
-      (o ∙ rw (← judged, ne-eqb answer 0 a, ne-eqb answer 10 b, ne-eqb answer 7 c), rw (← judged, ne-eqb answer 0 a))
+  packet-lost-room e o = (o ∙ rw (← judged, e), rw (← judged, e))
 
   -- a bad read pointer
   pub packet-lost-index : answer ≡ 10 → outcome ≡ outcomeOf answer (withLost true device)
@@ -93,11 +93,12 @@ module _ (geometry : Geometry) (device : Device) (area page : List ℕ) (slot : 
   unfolding packetOf
   packet-lost-index e o = (o ∙ rw (← judged, e), rw (← judged, e))
 
-  -- too little room
-  pub packet-lost-room : answer ≡ 7 → outcome ≡ outcomeOf answer (withLost true device)
+  -- any other refusal
+  pub packet-refused : (answer ≡ 0 → ⊥) → (answer ≡ 10 → ⊥) → (answer ≡ 7 → ⊥) → outcome ≡ outcomeOf answer device
       → Promise geometry device area page slot packet outcome area
   unfolding packetOf
-  packet-lost-room e o = (o ∙ rw (← judged, e), rw (← judged, e))
+  packet-refused a b c o =
+      (o ∙ rw (← judged, ne-eqb answer 0 a, ne-eqb answer 10 b, ne-eqb answer 7 c), rw (← judged, ne-eqb answer 0 a))
 
   pub packet-accepted : {after : List ℕ} {index : ℕ} → answer ≡ 0
       → Put (ringOf geometry) (device .producer .«write_index») (packetRecords device slot packet) area after index

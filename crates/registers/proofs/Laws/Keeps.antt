@@ -121,7 +121,7 @@ module _ (geometry : Geometry) (device : Device) (area : List ℕ) (value : ℕ)
   effect-size Isr = refl
   effect-size ConfSize = refl
   effect-size ClientRev = refl
-  effect-size ReadPtr = read-pointer-size value
+  effect-size ReadPtr = read-pointer-size _
   effect-size EventArea = refl
   effect-size EntryPage = refl
   effect-size Nothing = refl
