@@ -10,11 +10,16 @@ use events::ROWS;
 use geometry::Geometry;
 use libc::STDOUT_FILENO;
 use records::Event;
+use records::MOST_EVENTS;
 ghost use mathlib.Core.Path.{_≡_};
 ghost use Prim.Native.Nat.{_+_, _*_, _≤_, _<_};
 ghost use lib.ListN.{length};
+ghost use Rattle.assembly.specs.Collect.{packetLength};
 
 const ENTRY_LENGTH: usize = 72;
+
+// Where the last event that a packet has room for begins.
+const LAST_EVENT: usize = 248;
 
 fn sizes() -> Geometry {
     Geometry {
@@ -98,10 +103,10 @@ fn event_of(row: usize) -> Event
 
 // Holds one event more, and answers how many bytes are held.
 fn hold(packet: &mut [u8], held: usize, event: Event) -> usize
-    requires { ⌜ (length (now packet) ≡ 256) × (held ≤ 256) ⌝ }
-    ensures { λ r. ⌜ r ≤ 256 ⌝ }
+    requires { ⌜ (length (now packet) ≡ packetLength) × (held ≤ packetLength) ⌝ }
+    ensures { λ r. ⌜ r ≤ packetLength ⌝ }
 {
-    if held > 248 {
+    if held > LAST_EVENT {
         return held;
     }
     records::encode(&mut packet[held..held + 8], event);
@@ -121,8 +126,8 @@ fn take_event(
     packet: &mut [u8],
     event: Event,
 ) -> Sending
-    requires { ⌜ (length (now packet) ≡ 256) × (before .held ≤ 256) ⌝ }
-    ensures { λ r. ⌜ r .held ≤ 256 ⌝ }
+    requires { ⌜ (length (now packet) ≡ packetLength) × (before .held ≤ packetLength) ⌝ }
+    ensures { λ r. ⌜ r .held ≤ packetLength ⌝ }
 {
     let device = before.device;
     let held = before.held;
@@ -139,7 +144,7 @@ fn take_event(
 }
 
 fn send_all(device: Device, area: &mut [u8], page: &[u8], packet: &mut [u8]) -> Device
-    requires { ⌜ length (now packet) ≡ 256 ⌝ }
+    requires { ⌜ length (now packet) ≡ packetLength ⌝ }
 {
     let mut sending = Sending {
         device: device,
@@ -169,10 +174,10 @@ fn say(label: &[u8], slot: u32) -> bool {
 }
 
 fn say_packet(slot: u32, count: u32, packet: &[u8]) -> bool
-    requires { ⌜ length (now packet) ≡ 256 ⌝ }
+    requires { ⌜ length (now packet) ≡ packetLength ⌝ }
 {
     say(b"packet of slot ", slot);
-    if count > 32 {
+    if count > MOST_EVENTS {
         return false;
     }
     print_events(b"  ", packet, 0, count);
@@ -195,7 +200,7 @@ fn say_refused(number: u8) -> bool {
 
 // Prints what a step tells, and answers whether there is more to read.
 fn say_told(told: Told, packet: &[u8]) -> bool
-    requires { ⌜ length (now packet) ≡ 256 ⌝ }
+    requires { ⌜ length (now packet) ≡ packetLength ⌝ }
 {
     match told {
         Told::Refused(number) => say_refused(number),
@@ -211,7 +216,7 @@ fn say_told(told: Told, packet: &[u8]) -> bool
 }
 
 fn receive_all(area: &mut [u8], packet: &mut [u8])
-    requires { ⌜ length (now packet) ≡ 256 ⌝ }
+    requires { ⌜ length (now packet) ≡ packetLength ⌝ }
 {
     let mut driver = assembly::fresh();
     let mut left: u32 = 511;

@@ -6,7 +6,8 @@ use Rattle.stream.proofs.receive_all.Statement.{statement}
 use Rattle.stream.proofs.receive_all.Tie as tie
 
 abbrev Inv-loop : tie.InvT-loop
-Inv-loop area₀ packet₀ driver₀ left₀ area packet driver left = (length area ≡ length area₀) × (length packet ≡ length packet₀) × (length packet ≡ 256)
+Inv-loop area₀ packet₀ driver₀ left₀ area packet driver left =
+    (length area ≡ length area₀) × (length packet ≡ length packet₀) × (length packet ≡ 256)
 
 abbrev μ-loop : tie.MeasureT-loop
 μ-loop area₀ packet₀ driver₀ left₀ area packet driver left = left

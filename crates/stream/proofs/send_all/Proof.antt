@@ -7,7 +7,8 @@ use Rattle.stream.proofs.send_all.Statement.{statement}
 use Rattle.stream.proofs.send_all.Tie as tie
 
 abbrev Inv-loop : tie.InvT-loop
-Inv-loop area₀ page packet₀ sending₀ row₀ area packet sending row = (length area ≡ length area₀) × (length packet ≡ length packet₀) × (length packet ≡ 256) × (sending .held ≤ 256)
+Inv-loop area₀ page packet₀ sending₀ row₀ area packet sending row =
+    (length area ≡ length area₀) × (length packet ≡ length packet₀) × (length packet ≡ 256) × (sending .held ≤ 256)
 
 abbrev μ-loop : tie.MeasureT-loop
 μ-loop area₀ page packet₀ sending₀ row₀ area packet sending row = 61 - row

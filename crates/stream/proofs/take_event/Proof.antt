@@ -10,7 +10,10 @@ slice-reshare-prefix-send : tie.Need-slice-reshare-prefix-send
 slice-reshare-prefix-send c = search needs
 
 slice-aggregate-send : tie.Need-slice-aggregate-send
-slice-aggregate-send c = sym (length-take-le (c .before .before .before .before .before .before .before .before .args .before .held) (c .before .before .before .before .before .before .before .before .args .packet .now) (omega (arith, c .before .before .before .before .before .before .before .before .pre)))
+slice-aggregate-send c =
+    let half = c .before .before .before .before in
+    let start = half .before .before .before .before in
+    sym (length-take-le (start .args .before .held) (start .args .packet .now) (omega (arith, start .pre)))
 
 send-requires : tie.Need-send-requires
 send-requires c κs = search needs
