@@ -29,21 +29,21 @@ pub struct StepOutcome {
 }
 
 // What a step tells.
-pub const NOTHING: u8 = 0;
+const NOTHING: u8 = 0;
 
-pub const GAP: u8 = 1;
+const GAP: u8 = 1;
 
-pub const EMPTY_REPORT: u8 = 2;
+const EMPTY_REPORT: u8 = 2;
 
-pub const PACKET: u8 = 3;
+const PACKET: u8 = 3;
 
-pub const SET: u8 = 4;
+const SET: u8 = 4;
 
-pub const CONF: u8 = 5;
+const CONF: u8 = 5;
 
-pub const RESET: u8 = 6;
+const RESET: u8 = 6;
 
-pub const RESET_ALL: u8 = 7;
+const RESET_ALL: u8 = 7;
 
 fn tell(answer: u8, what: u8, slot: u32, count: u32) -> StepAnswer
     ensures { λ r. ⌜ r ≡ record { answer = answer; what = what; slot = slot; count = count } ⌝ }

@@ -12,20 +12,15 @@ use Rattle.geometry.specs.Geometry.{entryPlace}
 abbrev pub knownLength : ℕ
 knownLength = 68
 
--- The name, in text: 40 bytes.
-abbrev pub nameOf : List ℕ → List ℕ
-nameOf entry = take 40 entry
+-- The name, 40 bytes of text, and relbits, at 52, are kept with the rest: no rule asks for either.
 
 -- Which event types are used, a bit each.
 abbrev pub evbits : List ℕ → ℕ
 evbits entry = u32At entry 40
 
--- The words of the masks of absolute codes (two), relative codes (one) and buttons (three).
+-- The words of the masks of absolute codes (two) and buttons (three).
 abbrev pub absbits : List ℕ → ℕ → ℕ
 absbits entry word = u32At entry (44 + 4 * word)
-
-abbrev pub relbits : List ℕ → ℕ
-relbits entry = u32At entry 52
 
 abbrev pub btnbits : List ℕ → ℕ → ℕ
 btnbits entry word = u32At entry (56 + 4 * word)
