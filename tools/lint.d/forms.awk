@@ -1,20 +1,17 @@
-# What makes a source of the crates hard to read, with tabs between the parts: KIND SIZE FILE LINE.
-#
-#     columns  a line of more than 140 columns; SIZE is their number
-#     before   a line with a chain of more than six .before; SIZE is the length of its longest
+# What makes a source of the crates hard to read: a line of more than 140 columns, and one with a chain of more than six .before.
 
 BEGIN {
     widest = 140
     longest = 6
 }
 
-function tell(kind, size) { print kind "\t" size "\t" FILENAME "\t" FNR }
+function fault(message) { print FILENAME ":" FNR ": " message }
 
 # A character of several bytes is one column: its further bytes are left out.
 length($0) > widest {
     line = $0
     gsub(/[\200-\277]/, "", line)
-    if (length(line) > widest) tell("columns", length(line))
+    if (length(line) > widest) fault("the line has " length(line) " columns, more than " widest)
 }
 
 /\.before/ {
@@ -25,5 +22,5 @@ length($0) > widest {
         if (chain > most) most = chain
         line = substr(line, RSTART + RLENGTH)
     }
-    if (most > longest) tell("before", most)
+    if (most > longest) fault("a chain of " most " .before, more than " longest)
 }

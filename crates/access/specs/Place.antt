@@ -6,7 +6,8 @@ use lib.Dec.{ltb, eqb}
 use Rattle.geometry.specs.declared.Geometry.{Geometry}
 use Rattle.geometry.specs.Geometry.{areaLength}
 use Rattle.access.specs.declared.Place.{Place}
-use Rattle.access.specs.declared.Place.the-variants.{Magic, Rev, Control, EventSize, Npages, Acceleration, Isr, ConfSize, ClientRev, ReadPtr, EventArea, EntryPage, Nothing}
+use Rattle.access.specs.declared.Place.the-variants.{Magic, Rev, Control, EventSize, Npages, Acceleration, Isr}
+use Rattle.access.specs.declared.Place.the-variants.{ConfSize, ClientRev, ReadPtr, EventArea, EntryPage, Nothing}
 
 -- The first page: each register with its offset. Nothing stands elsewhere.
 abbrev pub registers : List (ℕ × Place)

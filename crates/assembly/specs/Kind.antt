@@ -7,7 +7,8 @@ use Rattle.geometry.specs.Geometry.{slotCount}
 use Rattle.records.specs.declared.Event.{Event}
 use Rattle.records.specs.Codes.{EV-SYN, EV-DEV, SYN-REPORT, SYN-DROPPED, DEV-SET, DEV-CONF, DEV-RESET, unknownSlot, allSlots}
 use Rattle.assembly.specs.declared.Kind.{Kind}
-use Rattle.assembly.specs.declared.Kind.the-variants.{SynReport, SynDropped, DevSet, DevConf, DevReset, DevResetAll, BadDevSet, BadDev, Other}
+use Rattle.assembly.specs.declared.Kind.the-variants.{SynReport, SynDropped, DevSet, DevConf}
+use Rattle.assembly.specs.declared.Kind.the-variants.{DevReset, DevResetAll, BadDevSet, BadDev, Other}
 
 -- A slot of this geometry.
 abbrev pub isSlot : Geometry → ℕ → Bool
@@ -17,7 +18,7 @@ isSlot geometry slot = ltb slot (slotCount geometry)
 abbrev pub synKind : ℕ → Kind
 synKind code = cond (eqb code SYN-REPORT) SynReport (cond (eqb code SYN-DROPPED) SynDropped Other)
 
--- DEV_SET takes a slot in range, and alone 0xFFFFFFFF, unknown source.
+-- DEV_SET takes a slot in range, and it alone takes 0xFFFFFFFF, unknown source.
 abbrev pub devSetKind : Geometry → ℕ → Kind
 devSetKind geometry value = cond (isSlot geometry value) DevSet (cond (eqb value unknownSlot) DevSet BadDevSet)
 

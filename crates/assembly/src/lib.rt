@@ -18,7 +18,7 @@ pub struct Driver {
     pub held: u32,
     // It had over 32 events.
     pub overlong: bool,
-    // The slot changed in its middle.
+    // A DEV_SET, a reset of all or a reset of its slot came in its middle.
     pub spoiled: bool,
     // Records were dropped: events up to the next report don't count.
     pub ignoring: bool,

@@ -5,7 +5,8 @@ use mathlib.Core.Logic.{_≢_}
 use mathlib.Core.Bool.{true, false}
 use native.Mathlib.Omega.{arith}
 use native.Mathlib.Decide.{decLe, decLt}
-use native.Mathlib.Nat.{add-div-right, add-mul-div-right, div-eq-of-lt, div-add-mod', mod-lt, pow-suc, div-div-eq-div-mul, mul-le-mul-right, add-mul, div-lt-iff-lt-mul}
+use native.Mathlib.Nat.{add-div-right, add-mul-div-right, div-eq-of-lt, div-add-mod', mod-lt}
+use native.Mathlib.Nat.{pow-suc, div-div-eq-div-mul, mul-le-mul-right, add-mul, div-lt-iff-lt-mul}
 use lib.Pow.{pow-pos, pow-add, pow-mono}
 use lib.Dec.{leb, ltb}
 use borrow.Author.Tests.{eqb-true, eqb-false, eq-eqb, ne-eqb, le-leb, lt-leb, lt-ltb, le-ltb}
@@ -42,7 +43,8 @@ module _ (mask index : ℕ) where
   below other h =
       let more : ℕ = index - suc other in
       let sum : index ≡ suc more + other = omega arith in
-      let power : 2 ^ index ≡ 2 ^ more * 2 * 2 ^ other = ap (λ (n : ℕ). 2 ^ n) sum ∙ pow-add 2 (suc more) other ∙ ap (λ (n : ℕ). n * 2 ^ other) (pow-suc 2 more) in
+      let power : 2 ^ index ≡ 2 ^ more * 2 * 2 ^ other =
+      ap (λ (n : ℕ). 2 ^ n) sum ∙ pow-add 2 (suc more) other ∙ ap (λ (n : ℕ). n * 2 ^ other) (pow-suc 2 more) in
       rw (power, add-mul-div-right mask (2 ^ more * 2) {z = 2 ^ other} (pow-pos other)) (omega arith)
 
   -- above, the sum carries nothing
@@ -50,9 +52,11 @@ module _ (mask index : ℕ) where
   above other h clear =
       let more : ℕ = other - suc index in
       let sum : other ≡ suc index + more = omega arith in
-      let power : 2 ^ other ≡ 2 ^ index * 2 * 2 ^ more = ap (λ (n : ℕ). 2 ^ n) sum ∙ pow-add 2 (suc index) more ∙ ap (λ (n : ℕ). n * 2 ^ more) (pow-suc 2 index) in
+      let power : 2 ^ other ≡ 2 ^ index * 2 * 2 ^ more =
+      ap (λ (n : ℕ). 2 ^ n) sum ∙ pow-add 2 (suc index) more ∙ ap (λ (n : ℕ). n * 2 ^ more) (pow-suc 2 index) in
       let split : (n : ℕ) → n / (2 ^ index * 2 * 2 ^ more) ≡ n / 2 ^ index / 2 / 2 ^ more
-      = λ n. sym (div-div-eq-div-mul n (2 ^ index * 2) (2 ^ more)) ∙ ap (λ (m : ℕ). m / 2 ^ more) (sym (div-div-eq-div-mul n (2 ^ index) 2)) in
+      = λ n. sym (div-div-eq-div-mul n (2 ^ index * 2) (2 ^ more))
+      ∙ ap (λ (m : ℕ). m / 2 ^ more) (sym (div-div-eq-div-mul n (2 ^ index) 2)) in
       let half : (mask / 2 ^ index + 1) / 2 ≡ mask / 2 ^ index / 2 = omega (arith, bit-clear mask index clear) in
       rw (power, split (mask + 2 ^ index), split mask, quotient, half)
 
@@ -68,9 +72,11 @@ module _ (mask index : ℕ) where
   set-below limit h k clear =
       let more : ℕ = limit - suc index in
       let sum : limit ≡ suc more + index = omega arith in
-      let power : 2 ^ limit ≡ 2 ^ more * 2 * 2 ^ index = ap (λ (n : ℕ). 2 ^ n) sum ∙ pow-add 2 (suc more) index ∙ ap (λ (n : ℕ). n * 2 ^ index) (pow-suc 2 more) in
+      let power : 2 ^ limit ≡ 2 ^ more * 2 * 2 ^ index =
+      ap (λ (n : ℕ). 2 ^ n) sum ∙ pow-add 2 (suc more) index ∙ ap (λ (n : ℕ). n * 2 ^ index) (pow-suc 2 more) in
       let quotients : mask / 2 ^ index < 2 ^ more * 2 = div-lt-iff-lt-mul {k = 2 ^ index} (pow-pos index) .1 (rw power at h) in
-      let room : (mask / 2 ^ index + 2) * 2 ^ index ≤ 2 ^ more * 2 * 2 ^ index = mul-le-mul-right (2 ^ index) (omega (arith, bit-clear mask index clear)) in
+      let room : (mask / 2 ^ index + 2) * 2 ^ index ≤ 2 ^ more * 2 * 2 ^ index =
+      mul-le-mul-right (2 ^ index) (omega (arith, bit-clear mask index clear)) in
       omega (arith, add-mul (mask / 2 ^ index) 2 (2 ^ index), div-add-mod' mask (2 ^ index), mod-lt mask {m = 2 ^ index} (pow-pos index))
 
 -- ---- a bit that is cleared

@@ -59,7 +59,8 @@ cases =
     ∷ case "R = 63, unread 60, slot current, no lost mark: two events" (packetAnswer coarse (on 60) (area 0 60) page 4 (motions 2)) 7
     ∷ case "READ_PTR 511 at R = 511" (packetAnswer fine (on 0) (area 511 0) page 4 (motions 1)) 10
     ∷ case "READ_PTR 510 at R = 511" (packetAnswer fine (on 0) (area 510 0) page 4 (motions 1)) 0
-    ∷ case "ABS code 0x35 by bit 21 of absbits' second word" (number (isOffered (absolute (2 ^ 21)) (record { kind = 3; code = 0x35; value = 0 }))) 1
+    ∷ case "ABS code 0x35 by bit 21 of absbits' second word"
+    (number (isOffered (absolute (2 ^ 21)) (record { kind = 3; code = 0x35; value = 0 }))) 1
     ∷ case "ABS code 0x35 by bit 20 of it" (number (isOffered (absolute (2 ^ 20)) (record { kind = 3; code = 0x35; value = 0 }))) 0
     ∷ case "keyboard ring: index 4294967295 has place 0, which begins at" (eventPlace 4294967295) 1024
     ∷ case "keyboard ring: place 50 begins at" (eventPlace 50) 3024

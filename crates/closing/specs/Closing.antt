@@ -26,7 +26,7 @@ isRaw settings = (settings .«feature_raw_pointer» && settings .«request_raw_p
 unfoldable pub isScaled : Settings → Bool
 isScaled settings = isAbsolute settings && not (isRaw settings)
 
--- The most contacts of a touch panel.
+-- The most contacts that a node may give.
 abbrev pub mostContacts : ℕ
 mostContacts = 32
 

@@ -6,7 +6,8 @@ use nodes::Parameter;
 use nodes::Settings;
 ghost use mathlib.Core.Path.{_≡_};
 ghost use mathlib.Core.Bool.{_&&_};
-ghost use Rattle.closing.specs.Closing.{isAbsolute, isMultiTouch, isRaw, isScaled, hasContacts, lacks, lackTests, firstLack, numberOf, notClosed, closeSettings};
+ghost use Rattle.closing.specs.Closing.{isAbsolute, isMultiTouch, isRaw, isScaled, hasContacts, lacks};
+ghost use Rattle.closing.specs.Closing.{lackTests, firstLack, numberOf, notClosed, closeSettings};
 
 // The first number that is needed and wasn't given as it has to be.
 enum Lack {
@@ -14,7 +15,7 @@ enum Lack {
     Of(NumberName),
 }
 
-// The most contacts of a touch panel.
+// The most contacts that a node may give.
 const MOST_CONTACTS: u32 = 32;
 
 #[repr(C)]

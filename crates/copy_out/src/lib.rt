@@ -50,7 +50,8 @@ fn copy_run(ring: Ring, area: &[u8], first: u32, count: usize, out: &mut [u8])
 fn copy_records(ring: Ring, area: &[u8], first: u32, count: usize, out: &mut [u8]) -> u32
     requires { ⌜ Holds (length (now area)) ring ⌝ }
     requires { ⌜ (first < ring .length) × (count < ring .length) × (count * 8 ≤ length (now out)) ⌝ }
-    ensures { λ r. ⌜ (r ≡ (first + count) % ring .length) × (now (out .exit) ≡ overwrite (now (out .entry)) 0 (bytesFrom ring (now (area .entry)) first count)) ⌝ }
+    ensures { λ r. ⌜ (r ≡ (first + count) % ring .length)
+        × (now (out .exit) ≡ overwrite (now (out .entry)) 0 (bytesFrom ring (now (area .entry)) first count)) ⌝ }
 {
     let until = (ring.length - first) as usize;
     if count < until {
@@ -77,7 +78,8 @@ fn refused(answer: u8) -> Copied
 pub fn copy_out(geometry: Geometry, area: &mut [u8], limit: u32, out: &mut [u8]) -> Copied
     ensures { λ r. ⌜ (let copy = copyOf geometry (now (area .entry)) limit (now (out .entry)) in
         (r ≡ copy .copied) × ((now (area .exit) ≡ copy .area) × ((now (out .exit) ≡ copy .out)
-        × (r .answer ≡ 0 → r .count ≡ unreadCount (ringOf geometry) (readPointer (now (area .entry))) (readPointer (now (area .exit))))))) ⌝ }
+        × (r .answer ≡ 0
+        → r .count ≡ unreadCount (ringOf geometry) (readPointer (now (area .entry))) (readPointer (now (area .exit))))))) ⌝ }
 {
     if !is_valid_area(geometry, area.len()) {
         return refused(INVALID);

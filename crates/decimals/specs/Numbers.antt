@@ -1,5 +1,6 @@
 -- Numbers as text (01, "kbdif ring and nodes"): 1 to 10 digits, no sign, no leading zero but "0", at most 4294967295.
--- A text is read from its first byte on, up to the first byte that spoils it. An eleventh digit is among these: it makes the number too large.
+-- A text is read from its first byte on, up to the first byte that spoils it. An eleventh digit is among these: it makes the number too
+-- large.
 use Prim.Native.Nat.{ℕ, suc, _+_, _-_, _*_}
 use mathlib.Core.Bool.{Bool, true, not, cond, _&&_, _||_}
 use mathlib.Core.List.{List, [], _∷_}

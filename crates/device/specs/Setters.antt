@@ -1,5 +1,5 @@
--- The state with one field or one group of fields set. All other definitions are built from these, so that a field that is added is
--- spelled here alone.
+-- The state with one field or one group of fields set. All other definitions but that of a fresh state are built from these, so that a
+-- field that is added is spelled in these two alone.
 use Prim.Native.Nat.{ℕ}
 use mathlib.Core.Bool.{Bool, true}
 use Rattle.device.specs.declared.Registers.{Registers}

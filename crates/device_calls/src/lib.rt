@@ -24,7 +24,8 @@ pub extern "C" fn thayarqo_put_packet(
     slot: u32,
     packet: &[u8],
 ) -> u8
-    ensures { λ r. ⌜ (let put = packetOf geometry (now (device .entry)) (now (area .entry)) (now (page .entry)) slot (now (packet .entry)) in
+    ensures { λ r. ⌜ (
+        let put = packetOf geometry (now (device .entry)) (now (area .entry)) (now (page .entry)) slot (now (packet .entry)) in
         (r ≡ put .outcome .answer) × (now (device .exit) ≡ put .outcome .device) × (now (area .exit) ≡ put .area)) ⌝ }
 {
     let out = packets::packet_rule(*device, geometry, area, page, slot, packet);
@@ -41,8 +42,10 @@ pub extern "C" fn thayarqo_add(
     slot: u32,
     entry: &[u8],
 ) -> u8
-    ensures { λ r. ⌜ (let added = addOf geometry (now (device .entry)) (now (area .entry)) (now (page .entry)) slot (now (entry .entry)) in
-        (r ≡ added .outcome .answer) × (now (device .exit) ≡ added .outcome .device) × (now (area .exit) ≡ added .area) × (now (page .exit) ≡ added .page)) ⌝ }
+    ensures { λ r. ⌜ (
+        let added = addOf geometry (now (device .entry)) (now (area .entry)) (now (page .entry)) slot (now (entry .entry)) in
+        (r ≡ added .outcome .answer) × (now (device .exit) ≡ added .outcome .device)
+        × (now (area .exit) ≡ added .area) × (now (page .exit) ≡ added .page)) ⌝ }
 {
     let out = hotplug::add_rule(*device, geometry, area, page, slot, entry);
     *device = out.device;
@@ -57,8 +60,10 @@ pub extern "C" fn thayarqo_remove(
     page: &mut [u8],
     slot: u32,
 ) -> u8
-    ensures { λ r. ⌜ (let removed = removeOf geometry (now (device .entry)) (now (area .entry)) (now (page .entry)) slot in
-        (r ≡ removed .outcome .answer) × (now (device .exit) ≡ removed .outcome .device) × (now (area .exit) ≡ removed .area) × (now (page .exit) ≡ removed .page)) ⌝ }
+    ensures { λ r. ⌜ (
+        let removed = removeOf geometry (now (device .entry)) (now (area .entry)) (now (page .entry)) slot in
+        (r ≡ removed .outcome .answer) × (now (device .exit) ≡ removed .outcome .device)
+        × (now (area .exit) ≡ removed .area) × (now (page .exit) ≡ removed .page)) ⌝ }
 {
     let out = hotplug::remove_rule(*device, geometry, area, page, slot);
     *device = out.device;

@@ -12,7 +12,8 @@ use Rattle.records.specs.Unread.{recordAt}
 use Rattle.reading.specs.Reading.{readingRefusals}
 use Rattle.assembly.specs.declared.Driver.{Driver}
 use Rattle.assembly.specs.declared.Kind.{Kind}
-use Rattle.assembly.specs.declared.Kind.the-variants.{SynReport, SynDropped, DevSet, DevConf, DevReset, DevResetAll, BadDevSet, BadDev, Other}
+use Rattle.assembly.specs.declared.Kind.the-variants.{SynReport, SynDropped, DevSet, DevConf}
+use Rattle.assembly.specs.declared.Kind.the-variants.{DevReset, DevResetAll, BadDevSet, BadDev, Other}
 use Rattle.assembly.specs.Kind.{kindOf}
 use Rattle.driver.specs.Step.{isValidStep}
 

@@ -1,4 +1,5 @@
--- Which events an entry offers (01, "Writing records"): the type's evbits bit is set, and the code is one that the type's mask has.
+-- Which events an entry offers (01, "Writing records"): the type's evbits bit is set, and the code is one that may be sent of its type.
+-- Only ABS and KEY consult a mask of codes.
 use Prim.Native.Nat.{ℕ, _-_, _/_, _%_}
 use mathlib.Core.Bool.{Bool, false, _&&_, cond}
 use mathlib.Core.List.{List}

@@ -3,7 +3,8 @@ ghost use mathlib.Core.Path.{_≡_};
 ghost use mathlib.Core.Bool.{true};
 ghost use Prim.Native.Nat.{_-_, _*_, _/_, _≤_, _<_};
 ghost use lib.Dec.{leb, ltb};
-ghost use Rattle.geometry.specs.Geometry.{isRecordSize, isEntrySize, allowed, areaLength, barLength, ringOf, recordPlace, slotCount, entryPlace};
+ghost use Rattle.geometry.specs.Geometry.{isRecordSize, isEntrySize, allowed, areaLength, barLength};
+ghost use Rattle.geometry.specs.Geometry.{ringOf, recordPlace, slotCount, entryPlace};
 
 pub const PAGE_LENGTH: usize = 4096;
 

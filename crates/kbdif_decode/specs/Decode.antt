@@ -11,8 +11,10 @@ use Rattle.answers.specs.Refusals.{firstRefusal}
 use Rattle.words.specs.Words.{u16At, u32At}
 use Rattle.signed.specs.Signed.{fromBits}
 use Rattle.kbdif_events.specs.declared.RingEvent.{RingEvent}
-use Rattle.kbdif_events.specs.declared.RingEvent.the-variants.{Motion, Key, Pos, TouchDown, TouchUp, TouchMotion, TouchSyn, TouchShape, TouchOrient, Unknown}
-use Rattle.kbdif_events.specs.Types.{XENKBD-TYPE-MOTION, XENKBD-TYPE-KEY, XENKBD-TYPE-POS, XENKBD-TYPE-MTOUCH, XENKBD-MT-EV-DOWN, XENKBD-MT-EV-UP, XENKBD-MT-EV-MOTION, XENKBD-MT-EV-SYN, XENKBD-MT-EV-SHAPE, XENKBD-MT-EV-ORIENT}
+use Rattle.kbdif_events.specs.declared.RingEvent.the-variants.{Motion, Key, Pos, TouchDown, TouchUp, TouchMotion}
+use Rattle.kbdif_events.specs.declared.RingEvent.the-variants.{TouchSyn, TouchShape, TouchOrient, Unknown}
+use Rattle.kbdif_events.specs.Types.{XENKBD-TYPE-MOTION, XENKBD-TYPE-KEY, XENKBD-TYPE-POS, XENKBD-TYPE-MTOUCH, XENKBD-MT-EV-DOWN}
+use Rattle.kbdif_events.specs.Types.{XENKBD-MT-EV-UP, XENKBD-MT-EV-MOTION, XENKBD-MT-EV-SYN, XENKBD-MT-EV-SHAPE, XENKBD-MT-EV-ORIENT}
 use Rattle.kbdif_events.specs.Event.{layoutOf, contactOf, known}
 use Rattle.kbdif_decode.specs.Reserved.{zeroOutside}
 

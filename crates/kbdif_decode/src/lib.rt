@@ -34,7 +34,7 @@ fn eight_at(bytes: &[u8], at: usize) -> u64
     words::read_u32(bytes, at) as u64 + words::read_u32(bytes, at + 4) as u64 * 4294967296
 }
 
-// No event has a field past byte 16.
+// No event has a field from byte 16 on.
 fn tail_is_zero(bytes: &[u8]) -> bool
     requires { ⌜ length (now bytes) ≡ eventLength ⌝ }
     ensures { λ r. ⌜ r ≡ allZero (between (now (bytes .entry)) 16 eventLength) ⌝ }
@@ -57,7 +57,7 @@ fn checked(clear: bool, form: Form) -> Form
     Form::Malformed
 }
 
-// The reserved bytes above a field are tested with it: the number of both is small where they are zero.
+// A field and the reserved bytes above it are read as one number: it is below the field's bound only where those bytes are zero.
 fn touch_form(bytes: &[u8], contact_limit: u32) -> Form
     requires { ⌜ (length (now bytes) ≡ eventLength) × (getD (now bytes) 0 0 ≡ XENKBD-TYPE-MTOUCH)
         × (1 ≤ «contact_limit») × («contact_limit» ≤ 256) ⌝ }

@@ -8,7 +8,8 @@ use borrow.Author.Tests.{ne-eqb}
 use Rattle.answers.specs.Answers.{done}
 use Rattle.kbdif_events.specs.declared.RingEvent.{RingEvent}
 use Rattle.kbdif_decode.specs.Decode.{Decoded, Event, Refused, eventAt}
-use Rattle.kbdif_order.specs.Order.{Entry, put, took, eventsPut, eventsTaken, isNothingToRead, endsWithNothingToRead, isSound, allSound}
+use Rattle.kbdif_order.specs.Order.{Entry, put, took, eventsPut, eventsTaken, isNothingToRead}
+use Rattle.kbdif_order.specs.Order.{endsWithNothingToRead, isSound, allSound}
 
 -- a log, from a ring in which so many events wait: what is taken, and then what waits, is what waited, and then what is put
 pub record Run (log : List Entry) (dry : Bool) (waited : List RingEvent) : Type 0 where
@@ -59,7 +60,13 @@ module _ (log : List Entry) (dry : Bool) (waited : List RingEvent) where
 
   pub take-logged : (event : RingEvent) → Run log false waited → Run (took (Event event) ∷ log) dry (event ∷ waited)
   unfolding eventsTaken eventsPut endsWithNothingToRead allSound
-  take-logged event run = record { waiting = run .waiting; kept = ap (λ (events : List RingEvent). event ∷ events) (run .kept); empty = run .empty; sound = run .sound }
+  take-logged event run = record {
+    waiting = run .waiting;
+    kept =
+        ap (λ (events : List RingEvent). event ∷ events) (run .kept);
+    empty = run .empty;
+    sound = run .sound;
+  }
 
   pub idle-logged : (number : ℕ) → isSound (took (Refused number)) ≡ true → Run log (isNothingToRead (took (Refused number))) waited
       → Run (took (Refused number) ∷ log) dry waited

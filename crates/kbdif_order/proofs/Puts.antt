@@ -19,7 +19,8 @@ use Rattle.kbdif_order.specs.Order.{Ring, putting, after, put, entryOf, 
 use Rattle.kbdif_order.proofs.Waiting.{waitingIn, one-more, same-events, Good, near}
 
 -- what may be put isn't refused when it is taken
-put-fine : (bytes : List ℕ) (contactLimit : ℕ) → mayBePut (decoded bytes contactLimit) ≡ true → firstRefusal (eventRefusals bytes contactLimit) ≡ done
+put-fine : (bytes : List ℕ) (contactLimit : ℕ) → mayBePut (decoded bytes contactLimit) ≡ true
+    → firstRefusal (eventRefusals bytes contactLimit) ≡ done
 put-fine bytes contactLimit h = go (firstRefusal (eventRefusals bytes contactLimit)) refl
   where
     go : (number : ℕ) → firstRefusal (eventRefusals bytes contactLimit) ≡ number → firstRefusal (eventRefusals bytes contactLimit) ≡ done
@@ -29,7 +30,8 @@ put-fine bytes contactLimit h = go (firstRefusal (eventRefusals bytes contactLim
     ]
 
 -- where the index is possible, no put is answered 10
-not-bad-index : (a b c d f : Bool) → firstRefusal ((a, invalid) ∷ (b, invalid) ∷ (c, invalid) ∷ (d, malformed) ∷ (false, badIndex) ∷ (f, noRoom) ∷ []) ≡ badIndex → ⊥
+not-bad-index : (a b c d f : Bool) → firstRefusal
+    ((a, invalid) ∷ (b, invalid) ∷ (c, invalid) ∷ (d, malformed) ∷ (false, badIndex) ∷ (f, noRoom) ∷ []) ≡ badIndex → ⊥
 unfolding firstRefusal
 not-bad-index true b c d f e = omega arith
 not-bad-index false true c d f e = omega arith
@@ -58,7 +60,8 @@ module _ (contactLimit : ℕ) (ring : Ring) (event : List ℕ) where
       let early = good .early in
       let few = good .few in
       let d = near (ring .inProd) (ring .inCons) (good .ordered) (omega arith) in
-      let index : ltb ringLength (distance (ring .inProd) (inConsOf (ring .page))) ≡ false = rw (good .cons-held, d) (le-ltb ringLength (ring .inProd - ring .inCons) (omega arith)) in
+      let index : ltb ringLength (distance (ring .inProd) (inConsOf (ring .page))) ≡ false =
+      rw (good .cons-held, d) (le-ltb ringLength (ring .inProd - ring .inCons) (omega arith)) in
       rw (ne-eqb putNumber badIndex (λ e. not-bad-index _ _ _ _ _ (rw index at e)))
 
   -- ---- accepted
@@ -98,7 +101,8 @@ module _ (contactLimit : ℕ) (ring : Ring) (event : List ℕ) where
     same = put-same (ring .page) (good .size) (ring .inProd) event (ok .event-size) (suc (ring .inProd))
 
     other : (index : ℕ) → ring .inCons ≤ index → index < ring .inProd → eventBytesAt (filled .page) index ≡ eventBytesAt (ring .page) index
-    other index low high = put-other (ring .page) (good .size) (ring .inProd) event (ok .event-size) (suc (ring .inProd)) index high (omega (arith, room))
+    other index low high = put-other (ring .page) (good .size) (ring .inProd) event (ok .event-size) (suc (ring .inProd)) index
+        high (omega (arith, room))
 
     pub put-good : Good contactLimit left filled
     put-good =
@@ -113,8 +117,10 @@ module _ (contactLimit : ℕ) (ring : Ring) (event : List ℕ) where
           fine = λ index low high. still index low (decLt index (ring .inProd)) high;
         }
       where
-        still : (index : ℕ) → ring .inCons ≤ index → Dec (index < ring .inProd) → index < suc (ring .inProd) → firstRefusal (eventRefusals (eventBytesAt (filled .page) index) contactLimit) ≡ done
-        still index low (yes h) high = ap (λ (bytes : List ℕ). firstRefusal (eventRefusals bytes contactLimit)) (other index low h) ∙ good .fine index low h
+        still : (index : ℕ) → ring .inCons ≤ index → Dec (index < ring .inProd) → index < suc (ring .inProd)
+            → firstRefusal (eventRefusals (eventBytesAt (filled .page) index) contactLimit) ≡ done
+        still index low (yes h) high =
+            ap (λ (bytes : List ℕ). firstRefusal (eventRefusals bytes contactLimit)) (other index low h) ∙ good .fine index low h
         still index low (no h) high =
             let e : index ≡ ring .inProd = omega arith in
             ap (λ (i : ℕ). firstRefusal (eventRefusals (eventBytesAt (filled .page) i) contactLimit)) e

@@ -25,7 +25,8 @@ module _ (contactLimit left : ℕ) (ring : Ring) (good : Good contactLimit left 
   -- a take finds the oldest event, or it changes nothing, and an 11 tells of an empty ring
   pub data Taking : Type 0 where
     event : ring .inCons < ring .inProd → found ≡ Event (eventAt (eventBytesAt (ring .page) (ring .inCons))) → Taking
-    idle : (number : ℕ) → found ≡ Refused number → eqb number malformed ≡ false → isSound (took (Refused number)) ≡ true → (isNothingToRead (took (Refused number)) ≡ true → ring .inProd ≡ ring .inCons) → Taking
+    idle : (number : ℕ) → found ≡ Refused number → eqb number malformed ≡ false → isSound (took (Refused number)) ≡ true
+        → (isNothingToRead (took (Refused number)) ≡ true → ring .inProd ≡ ring .inCons) → Taking
 
   whole : not (eqb (length (ring .page)) pageLength) ≡ false
   whole = rw (eq-eqb (length (ring .page)) pageLength (good .size))
@@ -38,7 +39,8 @@ module _ (contactLimit left : ℕ) (ring : Ring) (good : Good contactLimit left 
   pub taking-is : Taking
   taking-is = go (isContactLimit contactLimit) refl
     where
-      answer : {number : ℕ} → takeNumber (ring .page) (ring .inCons) contactLimit ≡ number → found ≡ answered number (eventAt (eventBytesAt (ring .page) (ring .inCons)))
+      answer : {number : ℕ} → takeNumber (ring .page) (ring .inCons) contactLimit ≡ number
+          → found ≡ answered number (eventAt (eventBytesAt (ring .page) (ring .inCons)))
       answer e = ap (λ (number : ℕ). answered number (eventAt (eventBytesAt (ring .page) (ring .inCons)))) e
 
       go : (allowed : Bool) → isContactLimit contactLimit ≡ allowed → Taking
@@ -49,14 +51,16 @@ module _ (contactLimit left : ℕ) (ring : Ring) (good : Good contactLimit left 
           let o = good .ordered in
           let f = good .few in
           let limit : not (isContactLimit contactLimit) ≡ false = rw e in
-          let index : ltb ringLength (distance (inProdOf (ring .page)) (ring .inCons)) ≡ false = rw unread (le-ltb ringLength (ring .inProd - ring .inCons) (omega arith)) in
+          let index : ltb ringLength (distance (inProdOf (ring .page)) (ring .inCons)) ≡ false =
+          rw unread (le-ltb ringLength (ring .inProd - ring .inCons) (omega arith)) in
           let sound = passed invalid _ whole ∙ passed invalid _ limit ∙ passed badIndex _ index in
           elim (ℕ-discrete (ring .inProd) (ring .inCons)) [
             | yes same ↦
                 let zero : ring .inProd - ring .inCons ≡ 0 = omega arith in
                 idle nothingToRead (answer (sound ∙ refused nothingToRead _ (eq-eqb _ 0 (unread ∙ zero)))) refl refl (λ h. same)
             | no n ↦
-                let some : eqb (distance (inProdOf (ring .page)) (ring .inCons)) 0 ≡ false = rw unread (ne-eqb (ring .inProd - ring .inCons) 0 (λ z. n (omega arith))) in
+                let some : eqb (distance (inProdOf (ring .page)) (ring .inCons)) 0 ≡ false =
+                rw unread (ne-eqb (ring .inProd - ring .inCons) 0 (λ z. n (omega arith))) in
                 event (omega arith) (answer (sound ∙ passed nothingToRead _ some ∙ good .fine (ring .inCons) (omega arith) (omega arith)))
           ]
 
@@ -90,7 +94,8 @@ module _ (contactLimit left : ℕ) (ring : Ring) (good : Good contactLimit left 
           few = omega (arith, good .few);
           early = omega arith;
           fine = λ index low high.
-              ap (λ (bytes : List ℕ). firstRefusal (eventRefusals bytes contactLimit)) (cons-event (ring .page) (good .size) (suc (ring .inCons)) index)
+              ap (λ (bytes : List ℕ). firstRefusal (eventRefusals bytes contactLimit))
+              (cons-event (ring .page) (good .size) (suc (ring .inCons)) index)
               ∙ good .fine index (omega arith) high;
         }
 
@@ -98,7 +103,8 @@ module _ (contactLimit left : ℕ) (ring : Ring) (good : Good contactLimit left 
     unfolding eventsFrom
     take-waits =
         let n : ring .inProd - ring .inCons ≡ suc (ring .inProd - suc (ring .inCons)) = omega arith in
-        let kept = same-events (emptied .page) (ring .page) (suc (ring .inCons)) (ring .inProd - suc (ring .inCons)) (λ i low high. cons-event (ring .page) (good .size) (suc (ring .inCons)) i) in
+        let kept = same-events (emptied .page) (ring .page) (suc (ring .inCons)) (ring .inProd - suc (ring .inCons))
+        (λ i low high. cons-event (ring .page) (good .size) (suc (ring .inCons)) i) in
         rw (n, kept)
 
   -- ---- no event

@@ -20,14 +20,16 @@ eventsFrom page index (suc count) = eventAt (eventBytesAt page index) ∷ events
 abbrev pub waitingIn : Ring → List RingEvent
 waitingIn ring = eventsFrom (ring .page) (ring .inCons) (ring .inProd - ring .inCons)
 
-pub one-more : (page : List ℕ) (index count : ℕ) → eventsFrom page index (suc count) ≡ eventsFrom page index count ++ (eventAt (eventBytesAt page (index + count)) ∷ [])
+pub one-more : (page : List ℕ) (index count : ℕ) → eventsFrom page index (suc count)
+    ≡ eventsFrom page index count ++ (eventAt (eventBytesAt page (index + count)) ∷ [])
 unfolding eventsFrom
 one-more page index zero = rw add-zero
 one-more page index (suc count) =
     let e : index + suc count ≡ suc index + count = omega arith in
     rw (one-more page (suc index) count, e)
 
-pub same-events : (left right : List ℕ) (index count : ℕ) → ((i : ℕ) → index ≤ i → i < index + count → eventBytesAt left i ≡ eventBytesAt right i)
+pub same-events : (left right : List ℕ)
+    (index count : ℕ) → ((i : ℕ) → index ≤ i → i < index + count → eventBytesAt left i ≡ eventBytesAt right i)
     → eventsFrom left index count ≡ eventsFrom right index count
 unfolding eventsFrom
 same-events left right index zero same = refl
@@ -42,7 +44,8 @@ pub record Good (contactLimit left : ℕ) (ring : Ring) : Type 0 where
   pub ordered : ring .inCons ≤ ring .inProd
   pub few : ring .inProd ≤ ring .inCons + ringLength
   pub early : ring .inProd + left < 2 ^ 32
-  pub fine : (index : ℕ) → ring .inCons ≤ index → index < ring .inProd → firstRefusal (eventRefusals (eventBytesAt (ring .page) index) contactLimit) ≡ done
+  pub fine : (index : ℕ) → ring .inCons ≤ index → index < ring .inProd
+      → firstRefusal (eventRefusals (eventBytesAt (ring .page) index) contactLimit) ≡ done
 
 -- without a wrap the distance is the difference
 pub near : (inProd inCons : ℕ) → inCons ≤ inProd → inProd < 2 ^ 32 → distance inProd inCons ≡ inProd - inCons

@@ -5,7 +5,9 @@ use mathlib.Core.List.{List, [], _∷_}
 use lib.Dec.{eqb}
 use Rattle.text.specs.Ascii.{ascii}
 use Rattle.node_names.specs.declared.FlagName.{FlagName}
-use Rattle.node_names.specs.declared.FlagName.the-variants.{FeatureDisableKeyboard, FeatureDisablePointer, FeatureAbsPointer, FeatureMultiTouch, FeatureRawPointer, RequestAbsPointer, RequestMultiTouch, RequestRawPointer}
+use Rattle.node_names.specs.declared.FlagName.the-variants.{FeatureDisableKeyboard, FeatureDisablePointer}
+use Rattle.node_names.specs.declared.FlagName.the-variants.{FeatureAbsPointer, FeatureMultiTouch, FeatureRawPointer}
+use Rattle.node_names.specs.declared.FlagName.the-variants.{RequestAbsPointer, RequestMultiTouch, RequestRawPointer}
 use Rattle.node_names.specs.declared.NumberName.{NumberName}
 use Rattle.node_names.specs.declared.NumberName.the-variants.{Width, Height, Contacts, TouchWidth, TouchHeight}
 use Rattle.node_names.specs.declared.Node.{Node}

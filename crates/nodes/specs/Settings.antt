@@ -3,7 +3,9 @@ use Prim.Native.Nat.{ℕ}
 use mathlib.Core.Bool.{Bool, true, false, cond}
 use lib.Dec.{eqb}
 use Rattle.node_names.specs.declared.FlagName.{FlagName}
-use Rattle.node_names.specs.declared.FlagName.the-variants.{FeatureDisableKeyboard, FeatureDisablePointer, FeatureAbsPointer, FeatureMultiTouch, FeatureRawPointer, RequestAbsPointer, RequestMultiTouch, RequestRawPointer}
+use Rattle.node_names.specs.declared.FlagName.the-variants.{FeatureDisableKeyboard, FeatureDisablePointer}
+use Rattle.node_names.specs.declared.FlagName.the-variants.{FeatureAbsPointer, FeatureMultiTouch, FeatureRawPointer}
+use Rattle.node_names.specs.declared.FlagName.the-variants.{RequestAbsPointer, RequestMultiTouch, RequestRawPointer}
 use Rattle.node_names.specs.declared.NumberName.{NumberName}
 use Rattle.node_names.specs.declared.NumberName.the-variants.{Width, Height, Contacts, TouchWidth, TouchHeight}
 use Rattle.node_names.specs.Names.{flagIndex, numberIndex}
@@ -58,7 +60,8 @@ withFlag settings name value =
 -- The settings with one number replaced.
 unfoldable pub withNumber : Settings → NumberName → ℕ → Settings
 withNumber settings name value =
-    let replaced : NumberName → Parameter → Parameter = λ this before. cond (eqb (numberIndex name) (numberIndex this)) (given value) before in
+    let replaced : NumberName → Parameter → Parameter =
+    λ this before. cond (eqb (numberIndex name) (numberIndex this)) (given value) before in
     record {
       «feature_disable_keyboard» = settings .«feature_disable_keyboard»;
       «feature_disable_pointer» = settings .«feature_disable_pointer»;

@@ -32,7 +32,8 @@ pub extern "C" fn thayarqo_write(
     width: u32,
     value: u32,
 ) -> u8
-    ensures { λ r. ⌜ (let written = writeOf geometry (now (device .entry)) (now (area .entry)) (length (now (page .entry))) offset width value in
+    ensures { λ r. ⌜ (
+        let written = writeOf geometry (now (device .entry)) (now (area .entry)) (length (now (page .entry))) offset width value in
         (r ≡ written .outcome .answer) × (now (device .exit) ≡ written .outcome .device) × (now (area .exit) ≡ written .area)) ⌝ }
 {
     let out = registers::write_rule(*device, geometry, area, page, offset, width, value);

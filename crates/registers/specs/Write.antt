@@ -1,4 +1,4 @@
--- What a write does (01, "Registers"). Writes to other places are refused, so they do nothing here.
+-- What a write does (01, "Registers"). Writes to read-only places were refused before, so they do nothing here.
 use Prim.Native.Nat.{ℕ}
 use mathlib.Core.Bool.{true, false, not, _&&_, cond}
 use mathlib.Core.List.{List}
@@ -13,7 +13,8 @@ use Rattle.device.specs.Setters.{withControl, withIsr, withClientRev}
 use Rattle.device.specs.State.{mayRun}
 use Rattle.device.specs.Result.{Result, resultOf}
 use Rattle.access.specs.declared.Place.{Place}
-use Rattle.access.specs.declared.Place.the-variants.{Magic, Rev, Control, EventSize, Npages, Acceleration, Isr, ConfSize, ClientRev, ReadPtr, EventArea, EntryPage, Nothing}
+use Rattle.access.specs.declared.Place.the-variants.{Magic, Rev, Control, EventSize, Npages, Acceleration, Isr}
+use Rattle.access.specs.declared.Place.the-variants.{ConfSize, ClientRev, ReadPtr, EventArea, EntryPage, Nothing}
 use Rattle.access.specs.Place.{placeOf}
 use Rattle.access.specs.Access.{accessAnswer}
 use Rattle.switch_on.specs.SwitchOn.{switchOn}
@@ -33,7 +34,7 @@ clientRevFor value = cond (eqb value 2) 2 0
 unfoldable pub clientRevOf : Device → ℕ → Device
 clientRevOf device value = cond (device .registers .on) device (withClientRev (clientRevFor value) device)
 
--- Any write clears ISR. READ_PTR takes any number.
+-- Any write to ISR clears it. READ_PTR takes any number. ACCELERATION ignores what is written.
 abbrev pub effectOf : Geometry → Device → List ℕ → ℕ → Place → Result
 effectOf geometry device area value Magic = resultOf done device area
 effectOf geometry device area value Rev = resultOf done device area

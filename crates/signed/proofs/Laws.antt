@@ -28,7 +28,8 @@ two-halves w128 = refl
 
 -- ---- a number that is passed or stored goes through its bits
 
-pub passed : (width : Width) (value : ℤ) {pattern : ℕ} → mag value < half width → pattern ≡ toBits width (fromBits width (toBits width value)) → pattern ≡ toBits width value
+pub passed : (width : Width) (value : ℤ) {pattern : ℕ} → mag value < half width
+    → pattern ≡ toBits width (fromBits width (toBits width value)) → pattern ≡ toBits width value
 passed width value small e = e ∙ ap (toBits width) (toZ-ofZ {w = width} {z = value} (record { sfits = small }))
 
 pub stored : (width : Width) (value : ℤ) {same : ℤ} → mag value < half width → value ≡ same → fromBits width (toBits width value) ≡ same
@@ -58,8 +59,13 @@ upper-half width n high fits =
     let k : ℕ = patterns width - 1 - n in
     let low : k < half width = omega arith in
     let back : patterns width - suc k ≡ n = omega arith in
-    let same : counted width n ≡ fromBits width n = ap (λ (v : ℤ). negsuc 0 -ℤ v) (toZ-pos width low) ∙ down k ∙ sym (toZ-neg width k low) ∙ ap (fromBits width) back in
-    record { small = subst (SFits width) (sym same) (sfits-toZ fits); value-is = ap (λ (v : ℤ). fromBits width (toBits width v)) same ∙ toZ-ofZ (sfits-toZ fits) }
+    let same : counted width n ≡ fromBits width n =
+    ap (λ (v : ℤ). negsuc 0 -ℤ v) (toZ-pos width low) ∙ down k ∙ sym (toZ-neg width k low) ∙ ap (fromBits width) back in
+    record {
+      small = subst (SFits width) (sym same) (sfits-toZ fits);
+      value-is =
+          ap (λ (v : ℤ). fromBits width (toBits width v)) same ∙ toZ-ofZ (sfits-toZ fits);
+    }
 
 -- ---- the bits of a number, by its sign
 
@@ -69,7 +75,8 @@ below width value = negsuc 0 -ℤ fromBits width (toBits width value)
 
 pub record Negative (width : Width) (value : ℤ) : Type 0 where
   pub small : SFits width (below width value)
-  pub cast : T (nonNeg (fromBits width (toBits width (below width value)))) × Fits width (natAbs (fromBits width (toBits width (below width value))))
+  pub cast : T (nonNeg (fromBits width (toBits width (below width value))))
+      × Fits width (natAbs (fromBits width (toBits width (below width value))))
   pub low : natAbs (fromBits width (toBits width (below width value))) ≤ patterns width - 1
   pub bits-are : patterns width - 1 - natAbs (fromBits width (toBits width (below width value))) ≡ toBits width value
 
@@ -77,13 +84,15 @@ pub record NotNegative (width : Width) (value : ℤ) : Type 0 where
   pub cast : T (nonNeg (fromBits width (toBits width value))) × Fits width (natAbs (fromBits width (toBits width value)))
   pub bits-are : natAbs (fromBits width (toBits width value)) ≡ toBits width value
 
-pub negative : (width : Width) (value : ℤ) → SFits width value → ltZ (fromBits width (toBits width value)) (pos 0) ≡ true → Negative width value
+pub negative : (width : Width) (value : ℤ) → SFits width value → ltZ (fromBits width (toBits width value)) (pos 0) ≡ true
+    → Negative width value
 negative width (pos n) fits h = absurd (omega (arith, ltb-true n 0 (sym (ap (λ (v : ℤ). ltZ v (pos 0)) (toZ-ofZ fits)) ∙ h)))
 negative width (negsuc n) fits h =
     let two = two-halves width in
     let f : n < half width = fits .sfits in
     let e : below width (negsuc n) ≡ pos n = ap (λ (v : ℤ). negsuc 0 -ℤ v) (toZ-ofZ fits) ∙ up n in
-    let g : pos n ≡ fromBits width (toBits width (below width (negsuc n))) = sym (ap (λ (v : ℤ). fromBits width (toBits width v)) e ∙ toZ-pos width f) in
+    let g : pos n ≡ fromBits width (toBits width (below width (negsuc n))) =
+    sym (ap (λ (v : ℤ). fromBits width (toBits width v)) e ∙ toZ-pos width f) in
     record {
       small = subst (SFits width) (sym e) (record { sfits = f });
       cast = subst (λ (v : ℤ). T (nonNeg v) × Fits width (natAbs v)) g (tt, record { fits = omega arith });
@@ -91,7 +100,8 @@ negative width (negsuc n) fits h =
       bits-are = subst (λ (v : ℤ). patterns width - 1 - natAbs v ≡ toBits width (negsuc n)) g (omega arith);
     }
 
-pub not-negative : (width : Width) (value : ℤ) → SFits width value → ltZ (fromBits width (toBits width value)) (pos 0) ≡ false → NotNegative width value
+pub not-negative : (width : Width) (value : ℤ) → SFits width value → ltZ (fromBits width (toBits width value)) (pos 0) ≡ false
+    → NotNegative width value
 not-negative width (pos n) fits h =
     let two = two-halves width in
     let f : n < half width = fits .sfits in

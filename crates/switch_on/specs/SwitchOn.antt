@@ -33,7 +33,7 @@ startRecords geometry device = devRecord DEV-RESET allSlots ∷ map (devRecord D
 abbrev pub clearedPointers : List ℕ → List ℕ
 clearedPointers area = withWritePointer (withReadPointer area 0) 0
 
--- On, with the ring's end started anew and moved past these records. ISR stays.
+-- On, with the device's end of the ring started anew and moved past these records. ISR stays.
 abbrev pub switchedOn : Bool → ℕ → Device → Device
 switchedOn interrupts index device = withWriteIndex index (withProducer freshProducer (withControl true interrupts device))
 

@@ -66,7 +66,8 @@ fn put_slots(ring: Ring, area: &mut [u8], index: u32, taken: u64, slots: u32) ->
 
 fn put_start(ring: Ring, area: &mut [u8], taken: u64, slots: u32) -> u32
     requires { ⌜ (Holds (length (now area)) ring) × (0 < ring .length) ⌝ }
-    ensures { λ r. ⌜ Put ring 0 (devRecord DEV-RESET allSlots ∷ map (devRecord DEV-CONF) (takenFrom taken 0 slots)) (now (area .entry)) (now (area .exit)) r ⌝ }
+    ensures { λ r. ⌜ Put ring 0 (devRecord DEV-RESET allSlots ∷ map (devRecord DEV-CONF) (takenFrom taken 0 slots))
+        (now (area .entry)) (now (area .exit)) r ⌝ }
 {
     let first = records::put_record(ring, area, 0, dev_record(DEV_RESET, ALL_SLOTS));
     put_slots(ring, area, first, taken, slots)

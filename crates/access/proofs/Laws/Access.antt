@@ -48,12 +48,15 @@ granted geometry device areaSize pageSize writes offset width h =
 
 -- an access that is not refused is 4 bytes wide
 pub granted-word : (geometry : Geometry) (device : Device) (areaSize pageSize : ℕ) (writes : Bool) (offset width : ℕ)
-    → accessAnswer geometry device areaSize pageSize writes offset width ≡ 0 → accessAnswer geometry device areaSize pageSize writes offset 4 ≡ 0
-granted-word geometry device areaSize pageSize writes offset width h = rw (granted geometry device areaSize pageSize writes offset width h .word) at h
+    → accessAnswer geometry device areaSize pageSize writes offset width ≡ 0
+    → accessAnswer geometry device areaSize pageSize writes offset 4 ≡ 0
+granted-word geometry device areaSize pageSize writes offset width h =
+    rw (granted geometry device areaSize pageSize writes offset width h .word) at h
 
 -- ---- the word read lies in its page
 
-module _ (geometry : Geometry) (device : Device) (areaSize pageSize offset width : ℕ) (access : Granted geometry device areaSize pageSize offset width) where
+module _ (geometry : Geometry) (device : Device) (areaSize pageSize offset width : ℕ)
+    (access : Granted geometry device areaSize pageSize offset width) where
   pub pointer-inside : 4 ≤ areaSize
   pointer-inside = omega (arith, pointers-inside areaSize (ringOf geometry) (access .is-call .holds))
 

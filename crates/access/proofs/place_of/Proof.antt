@@ -24,11 +24,21 @@ add-if3 c = search needs
 
 returns-3 : tie.Need-returns-3
 unfolding placeOf
-returns-3 c = rw (le-ltb _ _ (c .before .before .before .if1 .left), ne-eqb _ _ (c .before .before .if2 .left), ← c .before .area-length .ensures, lt-ltb _ _ (c .if3 .taken))
+returns-3 c = rw (
+  le-ltb _ _ (c .before .before .before .if1 .left),
+  ne-eqb _ _ (c .before .before .if2 .left),
+  ← c .before .area-length .ensures,
+  lt-ltb _ _ (c .if3 .taken),
+)
 
 returns-4 : tie.Need-returns-4
 unfolding placeOf
-returns-4 c = rw (le-ltb _ _ (c .before .before .before .if1 .left), ne-eqb _ _ (c .before .before .if2 .left), ← c .before .area-length .ensures, le-ltb _ _ (c .if3 .left))
+returns-4 c = rw (
+  le-ltb _ _ (c .before .before .before .if1 .left),
+  ne-eqb _ _ (c .before .before .if2 .left),
+  ← c .before .area-length .ensures,
+  le-ltb _ _ (c .if3 .left),
+)
 
 pub place-of-spec : {M : Type 1} → statement M
 place-of-spec =

@@ -20,7 +20,8 @@ use Rattle.text.proofs.Laws.Written.{written-length, written-next}
 use Rattle.capture.specs.Listing.{recordLine, recordLines}
 
 -- a number and one byte after it
-pub number-length : (number byte : ℕ) {before after : List ℕ} {at end : ℕ} → Written before at (decimal number ++ (byte ∷ [])) after end → end ≤ at + 11
+pub number-length : (number byte : ℕ) {before after : List ℕ} {at end : ℕ} → Written before at (decimal number ++ (byte ∷ [])) after end
+    → end ≤ at + 11
 number-length number byte wrote = omega (arith, wrote .ends, length-append (decimal number) (byte ∷ []), decimal-length number)
 
 pub line-length : (event : Event) → length (recordLine event) ≤ 33
@@ -49,7 +50,8 @@ lines-length (event ∷ rest) =
 
 -- the records from an index on, the first one apart
 lines-first : (ring : Ring) (area : List ℕ) (index more : ℕ)
-    → recordLines (recordsFrom ring area index (suc more)) ≡ recordLine (recordAt ring area index) ++ recordLines (recordsFrom ring area (nextIndex ring index) more)
+    → recordLines (recordsFrom ring area index (suc more)) ≡ recordLine (recordAt ring area index)
+    ++ recordLines (recordsFrom ring area (nextIndex ring index) more)
 unfolding recordLines recordsFrom
 lines-first ring area index more =
     let same : nextIndex ring index % ring .length ≡ suc index % ring .length = rw add-one (mod-mod (suc index) (ring .length)) in
@@ -68,7 +70,8 @@ module _ (ring : Ring) (area : List ℕ) (first count : ℕ) (start : List ℕ) 
   turn-begins h k = record { remains = begin start at _; ends = refl; inside = h; room = k }
 
   pub turn-goes-on : {out : List ℕ} {end index left : ℕ} → Turn ring area first count start at out end index left → 0 < left
-      → {event : Event} {after : List ℕ} {next place : ℕ} → event ≡ recordAt ring area index → Written out end (recordLine event) after next → place ≡ nextIndex ring index
+      → {event : Event} {after : List ℕ} {next place : ℕ} → event ≡ recordAt ring area index → Written out end (recordLine event) after next
+      → place ≡ nextIndex ring index
       → Turn ring area first count start at after next place (left - 1)
   turn-goes-on {out} {end} {index} {left} turn h {event} {after} {next} {place} read wrote moved =
       let one-more : left ≡ suc (left - 1) = omega arith in

@@ -21,10 +21,17 @@ use Rattle.capture.specs.Listing.{onePage, recordLines, numberLine, refu
 use Rattle.capture.proofs.Laws.Lines.{lines-length}
 
 -- a line of a word and a number takes at most eleven bytes after the word
-line-end : (word : List ℕ) (number : ℕ) {before after : List ℕ} {at end : ℕ} → Written before at (numberLine word number) after end → end ≤ at + length word + 11
+line-end : (word : List ℕ) (number : ℕ) {before after : List ℕ} {at end : ℕ} → Written before at (numberLine word number) after end
+    → end ≤ at + length word + 11
 unfolding numberLine
 line-end word number wrote =
-    omega (arith, wrote .ends, length-append word (decimal number ++ ascii "\n"), length-append (decimal number) (ascii "\n"), decimal-length number)
+    omega (
+      arith,
+      wrote .ends,
+      length-append word (decimal number ++ ascii "\n"),
+      length-append (decimal number) (ascii "\n"),
+      decimal-length number,
+    )
 
 -- the page holds the ring
 pub page-holds : Holds 4096 (ringOf onePage)
@@ -39,24 +46,30 @@ module _ (inputLength : ℕ) (area : List ℕ) {answer : ℕ} (judged : answer �
       (leb-false 511 (readPointer area) (b .0), leb-false 511 (writePointer area) (c .0))
 
   -- a page that is not refused has at most 510 unread records
-  module _ (none : answer ≡ 0) {read write count : ℕ} (r : read ≡ readPointer area) (w : write ≡ writePointer area) (counted : count ≡ unreadCount (ringOf onePage) read write) where
+  module _ (none : answer ≡ 0) {read write count : ℕ} (r : read ≡ readPointer area) (w : write ≡ writePointer area)
+      (counted : count ≡ unreadCount (ringOf onePage) read write) where
     pub few-records : count < 511
     few-records =
         let p = possible-pointers none in
         omega (arith, unread-below (ringOf onePage) read write (omega arith) (omega arith))
 
-    pub records-end : {before after : List ℕ} {at end : ℕ} → Written before at (recordLines (recordsFrom (ringOf onePage) area read count)) after end → end ≤ at + 510 * 33
+    pub records-end : {before after : List ℕ} {at end : ℕ} → Written before at (recordLines (recordsFrom (ringOf onePage) area read count))
+        after end → end ≤ at + 510 * 33
     records-end wrote =
         let lines : List Event = recordsFrom (ringOf onePage) area read count in
         omega (arith, few-records, wrote .ends, lines-length lines, records-length (ringOf onePage) area read count)
 
-  module _ {before titled : List ℕ} {at : ℕ} (size : length before ≡ 20480) (title : Written before 0 (ascii "type code value\n") titled at) where
+  module _ {before titled : List ℕ} {at : ℕ} (size : length before ≡ 20480)
+      (title : Written before 0 (ascii "type code value\n") titled at) where
     pub refused-listing : {after : List ℕ} {end : ℕ} → (answer ≡ 0 → ⊥) → Written titled at (numberLine (ascii "refused ") answer) after end
         → Written before 0 (listing inputLength area) after end × (end ≤ length after)
     refused-listing n line =
         let whole = written-next title (omega arith) line in
-        let short = line-end (ascii "refused ") answer line in
-        (rw (← judged, ne-eqb answer 0 n) whole, omega (arith, whole .ends, title .ends, written-length whole (omega (arith, whole .ends, title .ends))))
+        let short = line-end (ascii "refused ") answer line in (
+          rw (← judged, ne-eqb answer 0 n) whole,
+          omega
+              (arith, whole .ends, title .ends, written-length whole (omega (arith, whole .ends, title .ends))),
+        )
 
     pub whole-listing : {read write count : ℕ} {lines after : List ℕ} {line-at end : ℕ} → answer ≡ 0
         → read ≡ readPointer area → write ≡ writePointer area → count ≡ unreadCount (ringOf onePage) read write
@@ -64,8 +77,11 @@ module _ (inputLength : ℕ) (area : List ℕ) {answer : ℕ} (judged : answer �
         → Written lines line-at (numberLine (ascii "end ") count) after end
         → Written before 0 (listing inputLength area) after end × (end ≤ length after)
     whole-listing {read} {write} {count} none r w counted records last =
-        let body = written-next records (omega (arith, written-length title (omega arith), title .ends, records .ends, records-end none r w counted records)) last in
+        let body = written-next records
+        (omega (arith, written-length title (omega arith), title .ends, records .ends, records-end none r w counted records)) last in
         let whole = written-next title (omega arith) body in
         let many = records-end none r w counted records in
-        let short = line-end (ascii "end ") count last in
-        (rw (← judged, none, records-length, ← r, ← w, ← counted) whole, omega (arith, whole .ends, title .ends, written-length whole (omega (arith, whole .ends, title .ends))))
+        let short = line-end (ascii "end ") count last in (
+          rw (← judged, none, records-length, ← r, ← w, ← counted) whole,
+          omega (arith, whole .ends, title .ends, written-length whole (omega (arith, whole .ends, title .ends))),
+        )

@@ -21,11 +21,23 @@ write-pointer-requires c κs = search needs
 
 returns-3 : tie.Need-returns-3
 unfolding firstRefusal
-returns-3 c = rw (eq-eqb _ _ (c .before .before .before .before .if1 .left), ← c .before .before .before .read-pointer .ensures, lt-leb _ _ (c .before .before .if2 .left), ← c .before .write-pointer .ensures, le-leb _ _ (c .if3 .taken))
+returns-3 c = rw (
+  eq-eqb _ _ (c .before .before .before .before .if1 .left),
+  ← c .before .before .before .read-pointer .ensures,
+  lt-leb _ _ (c .before .before .if2 .left),
+  ← c .before .write-pointer .ensures,
+  le-leb _ _ (c .if3 .taken),
+)
 
 returns-4 : tie.Need-returns-4
 unfolding firstRefusal
-returns-4 c = rw (eq-eqb _ _ (c .before .before .before .before .if1 .left), ← c .before .before .before .read-pointer .ensures, lt-leb _ _ (c .before .before .if2 .left), ← c .before .write-pointer .ensures, lt-leb _ _ (c .if3 .left))
+returns-4 c = rw (
+  eq-eqb _ _ (c .before .before .before .before .if1 .left),
+  ← c .before .before .before .read-pointer .ensures,
+  lt-leb _ _ (c .before .before .if2 .left),
+  ← c .before .write-pointer .ensures,
+  lt-leb _ _ (c .if3 .left),
+)
 
 pub refusal-spec : {M : Type 1} → statement M
 refusal-spec =

@@ -20,7 +20,11 @@ same-length c = search needs
 
 returns : tie.Need-returns
 unfolding numberLine
-returns c = written-next (c .before .before .before .before .before .before .before .write-text .ensures) (omega (arith, c .before .before .before .before .before .before .before .before .before .before .before .pre)) (c .before .before .write-number .ensures)
+returns c =
+    let numbered = c .before .before in
+    let worded = numbered .before .before .before .before .before in
+    written-next (worded .write-text .ensures) (omega (arith, worded .before .before .before .before .pre))
+    (numbered .write-number .ensures)
 
 pub write-line-spec : {M : Type 1} → statement M
 write-line-spec =

@@ -10,14 +10,20 @@ write-decimal-requires : tie.Need-write-decimal-requires
 write-decimal-requires c κs = search needs
 
 write-text-requires : tie.Need-write-text-requires
-write-text-requires c κs = let w = c .before .before .before .write-decimal in
-    omega (arith, w .ensures .ends, w .kept, decimal-length (c .before .before .before .before .before .before .before .args .number))
+write-text-requires c κs =
+    let digits = c .before .before .before in
+    let start = digits .before .before .before .before in
+    omega (arith, digits .write-decimal .ensures .ends, digits .write-decimal .kept, decimal-length (start .args .number))
 
 same-length : tie.Need-same-length
 same-length c = search needs
 
 returns : tie.Need-returns
-returns c = written-next (c .before .before .before .before .before .before .write-decimal .ensures) (omega (arith, decimal-length (c .before .before .before .before .before .before .before .before .before .before .args .number), c .before .before .before .before .before .before .before .before .before .before .pre)) (c .before .before .write-text .ensures)
+returns c =
+    let digits = c .before .before .before .before .before .before in
+    let start = digits .before .before .before .before in
+    written-next (digits .write-decimal .ensures) (omega (arith, decimal-length (start .args .number), start .pre))
+    (c .before .before .write-text .ensures)
 
 pub write-number-spec : {M : Type 1} → statement M
 write-number-spec =

@@ -30,8 +30,12 @@ loop-less : tie.Need-loop-less Inv-loop μ-loop
 loop-less c = omega (arith, c .before .before .before .before .before .before .loop-test .taken)
 
 loop-again : tie.Need-loop-again Inv-loop μ-loop
-loop-again c = let a = c .before .before .before .before .before .before .before .before .before .before .args in
-    turn-goes-on (a .ring) (a .area .now) (a .first) (a .count) (a .out .now) (a .at) (c .before .before .before .before .before .before .before .loop .inv) (c .before .before .before .before .before .before .loop-test .taken) (c .before .before .before .before .before .record-at .ensures) (c .before .before .before .write-record .ensures) (c .next-index .ensures)
+loop-again c =
+    let read = c .before .before .before .before .before in
+    let turn = read .before .before in
+    let a = turn .before .before .before .args in
+    turn-goes-on (a .ring) (a .area .now) (a .first) (a .count) (a .out .now) (a .at) (turn .loop .inv) (read .before .loop-test .taken)
+    (read .record-at .ensures) (c .before .before .before .write-record .ensures) (c .next-index .ensures)
 
 same-length : tie.Need-same-length Inv-loop μ-loop
 same-length c = c .before .loop .inv .remains .size

@@ -22,4 +22,22 @@ pub all-right : Cases
 unfolding firstRefusal overwrite bit isRecordSize isEntrySize allowed eventBytes eventAt eventsFrom putRecord putRecords
     indexAfter offersCode isOffered clientRevRule currentRule isDevice isValidPages isValidCall allOffered packetAnswer packetOf
     accessAnswer placeIn placeOf takenFrom switchOn controlOf writeOf
-all-right = (refl, (refl, (refl, (refl, (refl, (refl, (refl, (refl, (refl, (refl, (refl, (refl, (refl, (refl, (refl, (refl, (refl, (refl, (refl, (refl, (refl, tt)))))))))))))))))))))
+all-right = (
+  refl,
+  (
+    refl,
+    (
+      refl,
+      (
+        refl,
+        (
+          refl,
+          (
+            refl,
+            (refl, (refl, (refl, (refl, (refl, (refl, (refl, (refl, (refl, (refl, (refl, (refl, (refl, (refl, (refl, tt))))))))))))))),
+          ),
+        ),
+      ),
+    ),
+  ),
+)

@@ -37,7 +37,8 @@ allowed contacts h =
     let range = both (leb 1 (contacts .value)) (leb (contacts .value) mostContacts) (parts .1) in
     rw (parts .0) (leb-true 1 (contacts .value) (range .0), leb-true (contacts .value) mostContacts (range .1))
 
-contacts-there : (settings : Settings) → firstLack (lackTests settings) ≡ Lack.Nothing → isMultiTouch settings ≡ true → hasContacts (settings .contacts) ≡ true
+contacts-there : (settings : Settings) → firstLack (lackTests settings) ≡ Lack.Nothing → isMultiTouch settings ≡ true
+    → hasContacts (settings .contacts) ≡ true
 contacts-there settings h on =
     let after-width = passed _ _ _ h .1 in
     let after-height = passed _ _ _ after-width .1 in

@@ -13,4 +13,5 @@ agree-stretch left right at count same l r =
     let n : length (take count (drop at left)) ≡ count = length-take-le count (drop at left) (rw length-drop (omega arith)) in
     let m : length (take count (drop at right)) ≡ count = length-take-le count (drop at right) (rw length-drop (omega arith)) in
     ext-getD 0 (take count (drop at left)) (take count (drop at right)) (n ∙ sym m)
-    (λ i h. rw (getD-take count (drop at left) i 0 (omega arith), getD-take count (drop at right) i 0 (omega arith), getD-drop, getD-drop) (same (at + i) (omega arith) (omega arith)))
+    (λ i h. rw (getD-take count (drop at left) i 0 (omega arith), getD-take count (drop at right) i 0 (omega arith), getD-drop, getD-drop)
+    (same (at + i) (omega arith) (omega arith)))

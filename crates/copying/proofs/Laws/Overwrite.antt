@@ -5,8 +5,10 @@ use mathlib.Core.List.{List, [], _∷_, _++_, append-assoc, append-nil}
 use native.Mathlib.Omega.{arith}
 use native.Mathlib.Nat.{add-assoc}
 use native.Mathlib.Numerals.{add-one}
-use lib.ListN.{length, getD, take, drop, set, length-append, length-take, length-drop, take-append-drop, drop-of-length-le, List·getD-append}
-use lib.Seq.{sets, sets-eq, set-split, getD-append-add, getD-take, getD-drop, length-take-le, take-append-le, take-take, take-at, drop-at, drop-drop}
+use lib.ListN.{length, getD, take, drop, set, length-append, length-take}
+use lib.ListN.{length-drop, take-append-drop, drop-of-length-le, List·getD-append}
+use lib.Seq.{sets, sets-eq, set-split, getD-append-add, getD-take, getD-drop}
+use lib.Seq.{length-take-le, take-append-le, take-take, take-at, drop-at, drop-drop}
 use Rattle.copying.specs.Copying.{overwrite, Agree}
 
 -- every byte of a stretch stored, one after the other
@@ -48,7 +50,8 @@ module _ (bytes : List ℕ) (at : ℕ) (stretch : List ℕ) where
       List·getD-append (take at bytes) (stretch ++ drop (length stretch) (drop at bytes)) 0 i (omega arith)
       ∙ getD-take at bytes i 0 (omega arith)
 
-  pub overwrite-after : (from count : ℕ) → at ≤ length bytes → at + length stretch ≤ from → Agree (overwrite bytes at stretch) bytes from count
+  pub overwrite-after : (from count : ℕ) → at ≤ length bytes → at + length stretch ≤ from
+      → Agree (overwrite bytes at stretch) bytes from count
   unfolding overwrite
   overwrite-after from count h k i low high =
       let e : length (take at bytes) ≡ at = length-take-le at bytes h in
@@ -72,9 +75,12 @@ unfolding overwrite
 overwrite-next bytes at first second h =
     let front : List ℕ = take at bytes ++ first in
     let rest : List ℕ = drop (length first) (drop at bytes) in
-    let n : length front ≡ at + length first = length-append (take at bytes) first ∙ ap (λ (k : ℕ). k + length first) (length-take-le at bytes (omega arith)) in
+    let n : length front ≡ at + length first =
+    length-append (take at bytes) first ∙ ap (λ (k : ℕ). k + length first) (length-take-le at bytes (omega arith)) in
     let whole : take at bytes ++ (first ++ rest) ≡ front ++ rest = sym (append-assoc (take at bytes) first rest) in
-    let back : drop (length second) rest ≡ drop (length (first ++ second)) (drop at bytes) = drop-drop (length second) (length first) (drop at bytes) ∙ ap (λ (k : ℕ). drop k (drop at bytes)) (sym (length-append first second)) in
+    let back : drop (length second) rest ≡ drop (length (first ++ second)) (drop at bytes) =
+    drop-drop (length second) (length first) (drop at bytes)
+    ∙ ap (λ (k : ℕ). drop k (drop at bytes)) (sym (length-append first second)) in
     rw (whole, take-at front rest (at + length first) n, drop-at front rest (at + length first) n, back, append-assoc, append-assoc)
 
 -- an empty stretch
@@ -96,7 +102,10 @@ overwrite-previous bytes at first second h =
     let front : List ℕ = take middle bytes in
     let back : List ℕ = second ++ drop (length second) (drop middle bytes) in
     let n : length front ≡ middle = length-take-le middle bytes h in
-    let before : take at (front ++ back) ≡ take at bytes = take-append-le at front back (omega arith) ∙ take-take at middle bytes (omega arith) in
-    let after : drop (length first) (drop at (front ++ back)) ≡ back = drop-drop (length first) at (front ++ back) ∙ drop-at front back middle n in
-    let rest : drop (length (first ++ second)) (drop at bytes) ≡ drop (length second) (drop middle bytes) = rw (length-append, drop-drop (length first + length second) at bytes, drop-drop, add-assoc) in
+    let before : take at (front ++ back) ≡ take at bytes =
+    take-append-le at front back (omega arith) ∙ take-take at middle bytes (omega arith) in
+    let after : drop (length first) (drop at (front ++ back)) ≡ back =
+    drop-drop (length first) at (front ++ back) ∙ drop-at front back middle n in
+    let rest : drop (length (first ++ second)) (drop at bytes) ≡ drop (length second) (drop middle bytes) =
+    rw (length-append, drop-drop (length first + length second) at bytes, drop-drop, add-assoc) in
     rw (before, after, rest, append-assoc)

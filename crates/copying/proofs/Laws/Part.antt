@@ -14,7 +14,8 @@ module _ (bytes : List ℕ) where
   next : (place following : ℕ) → following ≡ place + 1 → place < length bytes → drop place bytes ≡ getD bytes place 0 ∷ drop following bytes
   next place following e h = rw (e, add-one, drop-cons bytes place 0 h)
 
-  pub four-bytes : (at : ℕ) → at + 4 ≤ length bytes → getD bytes at 0 ∷ getD bytes (at + 1) 0 ∷ getD bytes (at + 2) 0 ∷ getD bytes (at + 3) 0 ∷ [] ≡ take 4 (drop at bytes)
+  pub four-bytes : (at : ℕ) → at + 4 ≤ length bytes → getD bytes at 0 ∷ getD bytes (at + 1) 0 ∷ getD bytes (at + 2) 0 ∷
+      getD bytes (at + 3) 0 ∷ [] ≡ take 4 (drop at bytes)
   four-bytes at h =
       rw (
         next at (at + 1) refl (omega arith),
@@ -25,7 +26,8 @@ module _ (bytes : List ℕ) where
 
   -- two fours are eight
   pub fours : length bytes ≡ 8 → take 4 bytes ++ take 4 (drop 4 bytes) ≡ bytes
-  fours h = ap (λ (rest : List ℕ). take 4 bytes ++ rest) (take-all 4 (drop 4 bytes) (simp length-drop (omega arith))) ∙ take-append-drop 4 bytes
+  fours h = ap (λ (rest : List ℕ). take 4 bytes ++ rest) (take-all 4 (drop 4 bytes) (simp length-drop (omega arith)))
+      ∙ take-append-drop 4 bytes
 
 -- a source of eight bytes, written four by four
 pub eight-written : (bytes : List ℕ) (at : ℕ) (source : List ℕ) (low high : Four) → length source ≡ 8 → at + 8 ≤ length bytes

@@ -34,11 +34,13 @@ module _ (start : List ℕ) (at : ℕ) (whole : List ℕ) where
         → Remains start at whole (set bytes (place + length rest) value) place rest
     last-stored h remains = record {
       size = length-set bytes (place + length rest) value ∙ remains .size;
-      outcome = rw (← overwrite-one bytes (place + length rest) value h) (overwrite-previous bytes place rest (value ∷ []) (omega arith) ∙ remains .outcome);
+      outcome = rw (← overwrite-one bytes (place + length rest) value h)
+          (overwrite-previous bytes place rest (value ∷ []) (omega arith) ∙ remains .outcome);
     }
 
   -- a whole stretch at a time
-  pub stretch-stored : (bytes : List ℕ) (place : ℕ) (first rest : List ℕ) → place + length first ≤ length bytes → Remains start at whole bytes place (first ++ rest)
+  pub stretch-stored : (bytes : List ℕ) (place : ℕ) (first rest : List ℕ) → place + length first ≤ length bytes
+      → Remains start at whole bytes place (first ++ rest)
       → Remains start at whole (overwrite bytes place first) (place + length first) rest
   stretch-stored bytes place first rest h remains = record {
     size = overwrite-length bytes place first h ∙ remains .size;
@@ -56,7 +58,8 @@ module _ (start : List ℕ) (at : ℕ) (text : List ℕ) where
         → Remains start at text (set bytes (at + i) (getD text i 0)) (at + (i + 1)) (drop (i + 1) text)
     copy-goes-on h k =
         let next : at + (i + 1) ≡ at + i + 1 = sym (add-assoc at i 1) in
-        rw (next, add-one i) (first-stored start at text bytes (at + i) (getD text i 0) (drop (suc i) text) k (rw (drop-cons text i 0 h) at remains))
+        rw (next, add-one i) (first-stored start at text bytes (at + i) (getD text i 0) (drop (suc i) text) k
+        (rw (drop-cons text i 0 h) at remains))
 
     pub copy-ends : length text ≤ i → bytes ≡ overwrite start at text
     copy-ends h = done start at text bytes (at + i) (rw (drop-of-length-le text {i = i} h) at remains)

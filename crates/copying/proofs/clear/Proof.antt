@@ -28,8 +28,12 @@ loop-less c = omega arith
 
 loop-again : tie.Need-loop-again Inv-loop μ-loop
 loop-again c = let a = c .before .before .args in
-    let loop = c .before .loop in
-    (omega arith, length-set (loop .bytes) (loop .i) 0 ∙ loop .inv .1, ap (λ (l : List ℕ). set l (loop .i) 0) (loop .inv .2) ∙ fill-more (loop .i) 0 (a .bytes .now) (omega arith))
+    let loop = c .before .loop in (
+      omega arith,
+      length-set (loop .bytes) (loop .i) 0 ∙ loop .inv .1,
+      ap (λ (l : List ℕ). set l (loop .i) 0) (loop .inv .2)
+          ∙ fill-more (loop .i) 0 (a .bytes .now) (omega arith),
+    )
 
 same-length : tie.Need-same-length Inv-loop μ-loop
 same-length c = c .before .loop .inv .1

@@ -62,7 +62,8 @@ accepted (byte ∷ rest) n h =
 
 -- ---- a number in decimal is accepted
 
-read-more : (text : List ℕ) (place value n byte next : ℕ) → readRest place value text ≡ Value n → nextNumber (place + length text) n byte ≡ Value next
+read-more : (text : List ℕ) (place value n byte next : ℕ) → readRest place value text ≡ Value n
+    → nextNumber (place + length text) n byte ≡ Value next
     → readRest place value (text ++ (byte ∷ [])) ≡ Value next
 unfolding readRest
 read-more [] place value n byte next h said = let same : value ≡ n = cc in rw (same, ← add-zero place, said)
@@ -88,7 +89,8 @@ more-digits value digit one some small (long, read) =
     rw (decimal-more value digit one some small) (
       omega (arith, length-append (decimal value) ((48 + digit) ∷ [])),
       read-more (decimal value) 0 0 value (48 + digit) (value * 10 + digit) read
-          (digit-accepted (0 + length (decimal value)) value digit one small (later-fine (0 + length (decimal value)) value (omega arith) some)),
+          (digit-accepted (0 + length (decimal value)) value digit one small
+          (later-fine (0 + length (decimal value)) value (omega arith) some)),
     )
 
 -- by the number of times that ten can be taken out
@@ -99,7 +101,8 @@ decimal-reads (suc bound) n h small =
       | yes one ↦ one-digit n one
       | no several ↦
           let parts : n / 10 * 10 + n % 10 ≡ n = omega arith in
-          rw parts at (more-digits (n / 10) (n % 10) (omega arith) (omega arith) (omega arith) (decimal-reads bound (n / 10) (omega arith) (omega arith)))
+          rw parts at (more-digits (n / 10) (n % 10) (omega arith) (omega arith) (omega arith)
+          (decimal-reads bound (n / 10) (omega arith) (omega arith)))
     ]
 
 -- Exactly the decimals of 0 to 4294967295 are accepted, and each says its number.

@@ -32,7 +32,8 @@ module _ (place value byte : ℕ) where
       (range .0, range .1, rest .0, rest .1)
 
   module _ (next : ℕ) where
-    decided : (test : Bool) → cond test (Bad place) (Value (withDigit value byte)) ≡ Value next → (test ≡ false) × (next ≡ withDigit value byte)
+    decided : (test : Bool) → cond test (Bad place) (Value (withDigit value byte)) ≡ Value next
+        → (test ≡ false) × (next ≡ withDigit value byte)
     decided true h = let z : _≡_ {A = ℕ} 0 1 = cc in absurd (omega arith)
     decided false h = (refl, cc)
 
@@ -65,7 +66,13 @@ module _ (place value digit : ℕ) (one : digit < 10) (small : value * 10 + digi
   unfolding nextNumber spoils
   digit-accepted fine =
       let same : 48 + digit - 48 ≡ digit = omega arith in
-      rw (le-ltb (48 + digit) 48 (omega arith), le-ltb 57 (48 + digit) (omega arith), fine, same, le-ltb 4294967295 (value * 10 + digit) (omega arith))
+      rw (
+        le-ltb (48 + digit) 48 (omega arith),
+        le-ltb 57 (48 + digit) (omega arith),
+        fine,
+        same,
+        le-ltb 4294967295 (value * 10 + digit) (omega arith),
+      )
 
 pub first-fine : (value : ℕ) → followsZero 0 value ≡ false
 unfolding followsZero

@@ -22,7 +22,12 @@ is-slot-requires c κs = search needs
 
 returns-4 : tie.Need-returns-4
 unfolding isDriver
-returns-4 c = rw (le-leb _ _ (c .before .before .before .if1 .left), ne-eqb _ _ (c .before .before .if2 .left), ne-eqb _ _ (c .before .if3 .left), c .is-slot .ensures)
+returns-4 c = rw (
+  le-leb _ _ (c .before .before .before .if1 .left),
+  ne-eqb _ _ (c .before .before .if2 .left),
+  ne-eqb _ _ (c .before .if3 .left),
+  c .is-slot .ensures,
+)
 
 pub is-driver-spec : {M : Type 1} → statement M
 is-driver-spec = tie.close (tie.spec returns returns-2 returns-3 is-slot-requires returns-4)

@@ -31,9 +31,11 @@ no-bit = refl
 
 -- an entry's masks stand in its known bytes
 known-present : (entry : List ℕ) → isPresent (take 68 entry) ≡ isPresent entry
-known-present entry = ap (λ (evbits : ℕ). bit evbits 0) (agree-u32 (take 68 entry) entry 40 (λ i low high. getD-take 68 entry i 0 (omega arith)))
+known-present entry = ap (λ (evbits : ℕ). bit evbits 0)
+    (agree-u32 (take 68 entry) entry 40 (λ i low high. getD-take 68 entry i 0 (omega arith)))
 
-module _ (geometry : Geometry) (ok : allowed geometry ≡ true) (page : List ℕ) (size : length page ≡ 4096) (slot : ℕ) (inside : slot < slotCount geometry) where
+module _ (geometry : Geometry) (ok : allowed geometry ≡ true) (page : List ℕ) (size : length page ≡ 4096) (slot : ℕ)
+    (inside : slot < slotCount geometry) where
   ends : entryPlace geometry slot + geometry .«entry_size» ≤ 4096
   ends = entry-inside geometry (sizes geometry ok) slot inside
 
@@ -41,12 +43,14 @@ module _ (geometry : Geometry) (ok : allowed geometry ≡ true) (page : List ℕ
     pub entry-back : entryAt geometry (withEntry geometry slot entry page) slot ≡ take 68 entry
     unfolding overwrite
     entry-back =
-        let front : length (take (entryPlace geometry slot) page) ≡ entryPlace geometry slot = length-take-le (entryPlace geometry slot) page (omega (arith, ends)) in
+        let front : length (take (entryPlace geometry slot) page) ≡ entryPlace geometry slot =
+        length-take-le (entryPlace geometry slot) page (omega (arith, ends)) in
         ap (take 68) (drop-at (take (entryPlace geometry slot) page) _ (entryPlace geometry slot) front)
         ∙ take-append-le 68 entry _ (omega (arith, sizes geometry ok .entry-low))
 
     -- another slot's entry stays
-    pub entry-other : (other : ℕ) → other < slotCount geometry → other ≢ slot → entryAt geometry (withEntry geometry slot entry page) other ≡ entryAt geometry page other
+    pub entry-other : (other : ℕ) → other < slotCount geometry → other ≢ slot
+        → entryAt geometry (withEntry geometry slot entry page) other ≡ entryAt geometry page other
     entry-other other low apart =
         let s = sizes geometry ok in
         let place : ℕ = entryPlace geometry slot in
@@ -54,8 +58,10 @@ module _ (geometry : Geometry) (ok : allowed geometry ≡ true) (page : List ℕ
         let after : length (withEntry geometry slot entry page) ≡ length page = overwrite-length page place entry (omega (arith, ends)) in
         agree-stretch (withEntry geometry slot entry page) page (entryPlace geometry other) 68
         (elim (decLt other slot) [
-          | yes below ↦ overwrite-before page place entry (entryPlace geometry other) 68 (omega (arith, ends)) (omega (arith, before other slot below, s .entry-low))
-          | no above ↦ overwrite-after page place entry (entryPlace geometry other) 68 (omega (arith, ends)) (omega (arith, before slot other (further above)))
+          | yes below ↦ overwrite-before page place entry (entryPlace geometry other) 68 (omega (arith, ends))
+              (omega (arith, before other slot below, s .entry-low))
+          | no above ↦ overwrite-after page place entry (entryPlace geometry other) 68 (omega (arith, ends))
+              (omega (arith, before slot other (further above)))
         ])
         (omega (arith, s .entry-low))
         (omega (arith, s .entry-low))
@@ -63,7 +69,8 @@ module _ (geometry : Geometry) (ok : allowed geometry ≡ true) (page : List ℕ
         -- an entry ends before the next begins
         before : (first second : ℕ) → first < second → entryPlace geometry first + geometry .«entry_size» ≤ entryPlace geometry second
         before first second h =
-            let k : geometry .«entry_size» * (first + 1) ≤ geometry .«entry_size» * second = mul-le-mul-left (geometry .«entry_size») (omega arith) in
+            let k : geometry .«entry_size» * (first + 1) ≤ geometry .«entry_size» * second =
+            mul-le-mul-left (geometry .«entry_size») (omega arith) in
             omega (arith, mul-add (geometry .«entry_size») first 1, mul-one (geometry .«entry_size»))
 
         further : (other < slot → ⊥) → slot < other
@@ -74,12 +81,16 @@ module _ (geometry : Geometry) (ok : allowed geometry ≡ true) (page : List ℕ
 
     -- what was added is looked up
     pub lookup-back : isPresent entry ≡ true
-        → (lookupAnswer geometry (withEntry geometry slot entry page) slot ≡ 0) × (lookupPart geometry (withEntry geometry slot entry page) slot ≡ take 68 entry)
+        → (lookupAnswer geometry (withEntry geometry slot entry page) slot ≡ 0)
+        × (lookupPart geometry (withEntry geometry slot entry page) slot ≡ take 68 entry)
     unfolding firstRefusal
     lookup-back there =
-        let after : length (withEntry geometry slot entry page) ≡ 4096 = overwrite-length page (entryPlace geometry slot) entry (omega (arith, ends)) ∙ size in
-        let found : isPresent (entryAt geometry (withEntry geometry slot entry page) slot) ≡ true = ap isPresent entry-back ∙ known-present entry ∙ there in
-        let long : eqb (length (withEntry geometry slot entry page)) 4096 ≡ true = eq-eqb (length (withEntry geometry slot entry page)) 4096 after in
+        let after : length (withEntry geometry slot entry page) ≡ 4096 =
+        overwrite-length page (entryPlace geometry slot) entry (omega (arith, ends)) ∙ size in
+        let found : isPresent (entryAt geometry (withEntry geometry slot entry page) slot) ≡ true =
+        ap isPresent entry-back ∙ known-present entry ∙ there in
+        let long : eqb (length (withEntry geometry slot entry page)) 4096 ≡ true =
+        eq-eqb (length (withEntry geometry slot entry page)) 4096 after in
         let low : ltb slot (slotCount geometry) ≡ true = lt-ltb slot (slotCount geometry) inside in
         (rw (ok, long, low, found), rw (ok, long, low, found) entry-back)
 

@@ -11,7 +11,8 @@ use Rattle.geometry.specs.declared.Geometry.{Geometry}
 use Rattle.geometry.specs.Geometry.{entryPlace}
 use Rattle.entries.specs.Entry.{withEntry, withoutEntry}
 
-module _ (geometry : Geometry) (page : List ℕ) (slot : ℕ) {start : ℕ} (place : start ≡ entryPlace geometry slot) (inside : start + geometry .«entry_size» ≤ length page) where
+module _ (geometry : Geometry) (page : List ℕ) (slot : ℕ) {start : ℕ} (place : start ≡ entryPlace geometry slot)
+    (inside : start + geometry .«entry_size» ≤ length page) where
   -- the stretch that is lent
   lent : List ℕ
   lent = take (start + geometry .«entry_size» - start) (drop start page)
@@ -25,7 +26,8 @@ module _ (geometry : Geometry) (page : List ℕ) (slot : ℕ) {start : ℕ} (pla
   -- what stands in the page once the stretch is as wanted
   filled : {part stretch : List ℕ} → geometry .«entry_size» ≡ length stretch → part ≡ stretch
       → take start page ++ (part ++ drop (start + geometry .«entry_size» - start) (drop start page)) ≡ withEntry geometry slot stretch page
-  filled {stretch = stretch} size e = lent-part page start (geometry .«entry_size») size e ∙ ap (λ (at : ℕ). overwrite page at stretch) place
+  filled {stretch = stretch} size e =
+      lent-part page start (geometry .«entry_size») size e ∙ ap (λ (at : ℕ). overwrite page at stretch) place
 
   pub entry-stored : (entry : List ℕ) {part : List ℕ} → length entry ≡ geometry .«entry_size»
       → part ≡ overwrite (take (start + geometry .«entry_size» - start) (drop start page)) 0 entry

@@ -10,10 +10,17 @@ use Rattle.entries.proofs.clear_entry.Statement.{statement}
 use Rattle.entries.proofs.clear_entry.Tie as tie
 
 -- the entry's stretch lies in the page
-inside : (c : tie.After-struct-known) → c .before .entry-place .result + c .before .before .before .args .geometry .«entry_size» ≤ length (c .before .before .before .args .page .now)
+inside : (c : tie.After-struct-known) → c .before .entry-place .result + c .before .before .before .args .geometry .«entry_size» ≤ length
+    (c .before .before .before .args .page .now)
 inside c =
     let s = c .before .before .before in
-    omega (arith, c .before .entry-place .ensures, entry-inside (s .args .geometry) (sizes (s .args .geometry) (s .pre .0)) (s .args .slot) (s .pre .1), s .pre .2)
+    omega (
+      arith,
+      c .before .entry-place .ensures,
+      entry-inside (s .args .geometry) (sizes (s .args .geometry) (s .pre .0))
+          (s .args .slot) (s .pre .1),
+      s .pre .2,
+    )
 
 entry-place-requires : tie.Need-entry-place-requires
 entry-place-requires c κs = search needs
@@ -43,7 +50,8 @@ returns : tie.Need-returns
 returns c =
     let part = c .before .before .before .before in
     let a = part .before .before .before .args in
-    entry-cleared (a .geometry) (a .page .now) (a .slot) (part .before .entry-place .ensures) (inside part) (c .before .before .clear .ensures)
+    entry-cleared (a .geometry) (a .page .now) (a .slot) (part .before .entry-place .ensures) (inside part)
+    (c .before .before .clear .ensures)
 
 pub clear-entry-spec : {M : Type 1} → statement M
 clear-entry-spec =

@@ -13,7 +13,12 @@ use Rattle.entries.proofs.lookup.Tie as tie
 inside : (c : tie.After-entry-place) → c .entry-place .result + 68 ≤ length (c .before .before .before .before .args .page .now)
 inside c =
     let a = c .before .before .before .before .args in
-    omega (arith, c .entry-place .ensures, found-inside (a .geometry) (a .page .now) (a .slot) (sym (c .before .before .lookup-refusal .ensures) ∙ c .before .if1 .left))
+    omega (
+      arith,
+      c .entry-place .ensures,
+      found-inside (a .geometry) (a .page .now) (a .slot)
+          (sym (c .before .before .lookup-refusal .ensures) ∙ c .before .if1 .left),
+    )
 
 lookup-refusal-requires : tie.Need-lookup-refusal-requires
 lookup-refusal-requires c κs = search needs
@@ -48,8 +53,11 @@ part-result-end-2 c = omega (arith, inside c)
 
 returns-2 : tie.Need-returns-2
 returns-2 c = let s = c .before .before .before .before .before in
-    let e = c .before .before .before .lookup-refusal .ensures in
-    (rw (← e, eq-eqb _ _ (c .before .before .if1 .left)) (known-part (s .args .geometry) (s .args .page .now) (s .args .slot) (c .before .entry-place .ensures)), e)
+    let e = c .before .before .before .lookup-refusal .ensures in (
+      rw (← e, eq-eqb _ _ (c .before .before .if1 .left))
+          (known-part (s .args .geometry) (s .args .page .now) (s .args .slot) (c .before .entry-place .ensures)),
+      e,
+    )
 
 pub lookup-spec : {M : Type 1} → statement M
 lookup-spec =

@@ -10,10 +10,18 @@ use Rattle.entries.proofs.write_entry.Statement.{statement}
 use Rattle.entries.proofs.write_entry.Tie as tie
 
 -- the entry's stretch lies in the page
-inside : (c : tie.After-struct-known) → c .before .entry-place .result + c .before .before .before .before .args .geometry .«entry_size» ≤ length (c .before .before .before .before .args .page .now)
+inside : (c : tie.After-struct-known)
+    → c .before .entry-place .result + c .before .before .before .before .args .geometry .«entry_size» ≤ length
+    (c .before .before .before .before .args .page .now)
 inside c =
     let s = c .before .before .before .before in
-    omega (arith, c .before .entry-place .ensures, entry-inside (s .args .geometry) (sizes (s .args .geometry) (s .pre .0 .0)) (s .args .slot) (s .pre .0 .1), s .pre .1 .0)
+    omega (
+      arith,
+      c .before .entry-place .ensures,
+      entry-inside (s .args .geometry) (sizes (s .args .geometry) (s .pre .0 .0))
+          (s .args .slot) (s .pre .0 .1),
+      s .pre .1 .0,
+    )
 
 entry-place-requires : tie.Need-entry-place-requires
 entry-place-requires c κs = search needs

@@ -33,11 +33,13 @@ record-sizes P size h p8 p16 p32 p64 = go (eqb size 8) (eqb size 16) (eqb size 3
 pub record-power : (size : ℕ) → isRecordSize size ≡ true → (trailingZeros 32 size < 32) × (2 ^ trailingZeros 32 size ≡ size)
 unfolding trailingZeros
 record-power size h =
-    record-sizes (λ n. (trailingZeros 32 n < 32) × (2 ^ trailingZeros 32 n ≡ n)) size h (lit< tt, refl) (lit< tt, refl) (lit< tt, refl) (lit< tt, refl)
+    record-sizes (λ n. (trailingZeros 32 n < 32) × (2 ^ trailingZeros 32 n ≡ n)) size h (lit< tt, refl) (lit< tt, refl)
+    (lit< tt, refl) (lit< tt, refl)
 
 -- the ring fills the area behind the place of the pointers
 RingShape : ℕ → ℕ → Type 0
-RingShape pages size = (8 ≤ size) × (size ≤ 64) × (63 ≤ pages * 4096 / size - 1) × (pages * 4096 / size - 1 < 4096) × (size * (pages * 4096 / size - 1 + 1) ≡ pages * 4096)
+RingShape pages size = (8 ≤ size) × (size ≤ 64) × (63 ≤ pages * 4096 / size - 1) × (pages * 4096 / size - 1 < 4096)
+    × (size * (pages * 4096 / size - 1 + 1) ≡ pages * 4096)
 
 ring-shape : (pages size : ℕ) → 1 ≤ pages → pages ≤ 8 → isRecordSize size ≡ true → RingShape pages size
 unfolding RingShape

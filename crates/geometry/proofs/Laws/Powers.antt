@@ -36,7 +36,8 @@ each (suc n) h k low =
     let here = both (agree (isPower (8 + n)) (isRecordSize (8 + n))) (agree-on n) h in
     go (eqb k n) refl (agreed _ _ (here .0)) (λ below. each n (here .1) k below)
   where
-    go : (test : Bool) → eqb k n ≡ test → isPower (8 + n) ≡ isRecordSize (8 + n) → (k < n → isPower (8 + k) ≡ isRecordSize (8 + k)) → isPower (8 + k) ≡ isRecordSize (8 + k)
+    go : (test : Bool) → eqb k n ≡ test → isPower (8 + n) ≡ isRecordSize (8 + n) → (k < n → isPower (8 + k) ≡ isRecordSize (8 + k))
+        → isPower (8 + k) ≡ isRecordSize (8 + k)
     go true e this lower = rw (eqb-true k n e) this
     go false e this lower = lower (omega (arith, low, eqb-false k n e))
 
@@ -52,9 +53,19 @@ powers size low high =
 pub too-small : (size : ℕ) → size < 8 → false ≡ isRecordSize size
 unfolding isRecordSize
 too-small size low =
-    rw (ne-eqb size 8 (λ e. omega (arith, e, low)), ne-eqb size 16 (λ e. omega (arith, e, low)), ne-eqb size 32 (λ e. omega (arith, e, low)), ne-eqb size 64 (λ e. omega (arith, e, low)))
+    rw (
+      ne-eqb size 8 (λ e. omega (arith, e, low)),
+      ne-eqb size 16 (λ e. omega (arith, e, low)),
+      ne-eqb size 32 (λ e. omega (arith, e, low)),
+      ne-eqb size 64 (λ e. omega (arith, e, low)),
+    )
 
 pub too-large : (size : ℕ) → 64 < size → false ≡ isRecordSize size
 unfolding isRecordSize
 too-large size high =
-    rw (ne-eqb size 8 (λ e. omega (arith, e, high)), ne-eqb size 16 (λ e. omega (arith, e, high)), ne-eqb size 32 (λ e. omega (arith, e, high)), ne-eqb size 64 (λ e. omega (arith, e, high)))
+    rw (
+      ne-eqb size 8 (λ e. omega (arith, e, high)),
+      ne-eqb size 16 (λ e. omega (arith, e, high)),
+      ne-eqb size 32 (λ e. omega (arith, e, high)),
+      ne-eqb size 64 (λ e. omega (arith, e, high)),
+    )

@@ -24,7 +24,8 @@ module _ (geometry : Geometry) (sized : Sizes geometry) where
       rw mul-comm k
 
   pub entry-inside : (slot : ℕ) → slot < slotCount geometry → entryPlace geometry slot + geometry .«entry_size» ≤ 4096
-  entry-inside slot h = omega (arith, slots-inside (slot + 1) (omega arith), mul-add (geometry .«entry_size») slot 1, mul-one (geometry .«entry_size»))
+  entry-inside slot h = omega
+      (arith, slots-inside (slot + 1) (omega arith), mul-add (geometry .«entry_size») slot 1, mul-one (geometry .«entry_size»))
 
   pub few-slots : slotCount geometry ≤ 60
   few-slots =

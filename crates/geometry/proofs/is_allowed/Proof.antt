@@ -30,7 +30,11 @@ is-entry-size-requires c κs = search needs
 returns-3 : tie.Need-returns-3
 unfolding allowed
 returns-3 c =
-    rw (le-leb _ _ (c .before .before .before .before .if1 .left), le-leb _ _ (c .before .before .if2 .left), sym (c .before .is-entry-size .ensures) ∙ not-true _ (c .if3 .taken))
+    rw (
+      le-leb _ _ (c .before .before .before .before .if1 .left),
+      le-leb _ _ (c .before .before .if2 .left),
+      sym (c .before .is-entry-size .ensures) ∙ not-true _ (c .if3 .taken),
+    )
     (never (isRecordSize (c .before .before .before .before .before .before .args .geometry .«record_size»)))
 
 is-record-size-requires : tie.Need-is-record-size-requires
@@ -39,7 +43,12 @@ is-record-size-requires c κs = search needs
 returns-4 : tie.Need-returns-4
 unfolding allowed
 returns-4 c =
-    rw (le-leb _ _ (c .before .before .before .before .before .if1 .left), le-leb _ _ (c .before .before .before .if2 .left), sym (c .before .before .is-entry-size .ensures) ∙ not-false _ (c .before .if3 .left), c .is-record-size .ensures)
+    rw (
+      le-leb _ _ (c .before .before .before .before .before .if1 .left),
+      le-leb _ _ (c .before .before .before .if2 .left),
+      sym (c .before .before .is-entry-size .ensures) ∙ not-false _ (c .before .if3 .left),
+      c .is-record-size .ensures,
+    )
     (alone _)
 
 pub is-allowed-spec : {M : Type 1} → statement M

@@ -136,7 +136,10 @@ module _ (bytes : List ℕ) (size : length bytes ≡ eventLength) (ok : IsBytes 
       picked (Laid bytes) (getD bytes 0 0) _ Unknown (
         (λ kind. record { laid = λ k reserved. laid-out bytes _ size reserved (plain-head kind) coordinates }),
         (
-          (λ kind. record { laid = λ k reserved. laid-out bytes _ size reserved (key-head kind (pressed-bit kind allowed)) (u32-field 4 (omega arith)) }),
+          (λ kind. record {
+            laid =
+                λ k reserved. laid-out bytes _ size reserved (key-head kind (pressed-bit kind allowed)) (u32-field 4 (omega arith));
+          }),
           ((λ kind. record { laid = λ k reserved. laid-out bytes _ size reserved (plain-head kind) coordinates }), (touch-laid, tt)),
         ),
       )

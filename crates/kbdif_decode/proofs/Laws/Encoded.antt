@@ -13,7 +13,8 @@ use Rattle.words.specs.Words.{u16At, u32At}
 use Rattle.words.proofs.Laws.Word.{u16-digits, u32-digits}
 use Rattle.signed.specs.Signed.{fromBits, toBits}
 use Rattle.kbdif_events.specs.declared.RingEvent.{RingEvent}
-use Rattle.kbdif_events.specs.declared.RingEvent.the-variants.{Motion, Key, Pos, TouchDown, TouchUp, TouchMotion, TouchSyn, TouchShape, TouchOrient, Unknown}
+use Rattle.kbdif_events.specs.declared.RingEvent.the-variants.{Motion, Key, Pos, TouchDown, TouchUp, TouchMotion}
+use Rattle.kbdif_events.specs.declared.RingEvent.the-variants.{TouchSyn, TouchShape, TouchOrient, Unknown}
 use Rattle.kbdif_events.specs.Event.{eventLength, layoutOf, eventBytes, i32Bytes, i16Bytes, contactOf, EventFits}
 use Rattle.kbdif_decode.specs.Reserved.{allZero}
 use Rattle.kbdif_decode.specs.Decode.{Event, lookup, touchAt, eventAt, extentOf, reservedIsZero, pressedAboveOne, decoded}

@@ -9,8 +9,10 @@ use lib.Dec.{leb, ltb, eqb}
 use lib.ListN.{length, getD}
 use Rattle.words.specs.Words.{u32At, IsBytes}
 use Rattle.kbdif_events.specs.declared.RingEvent.{RingEvent}
-use Rattle.kbdif_events.specs.declared.RingEvent.the-variants.{Motion, Key, Pos, TouchDown, TouchUp, TouchMotion, TouchSyn, TouchShape, TouchOrient, Unknown}
-use Rattle.kbdif_events.specs.Types.{XENKBD-TYPE-MOTION, XENKBD-TYPE-KEY, XENKBD-TYPE-POS, XENKBD-TYPE-MTOUCH, XENKBD-MT-EV-DOWN, XENKBD-MT-EV-UP, XENKBD-MT-EV-MOTION, XENKBD-MT-EV-SYN, XENKBD-MT-EV-SHAPE, XENKBD-MT-EV-ORIENT}
+use Rattle.kbdif_events.specs.declared.RingEvent.the-variants.{Motion, Key, Pos, TouchDown, TouchUp, TouchMotion}
+use Rattle.kbdif_events.specs.declared.RingEvent.the-variants.{TouchSyn, TouchShape, TouchOrient, Unknown}
+use Rattle.kbdif_events.specs.Types.{XENKBD-TYPE-MOTION, XENKBD-TYPE-KEY, XENKBD-TYPE-POS, XENKBD-TYPE-MTOUCH, XENKBD-MT-EV-DOWN}
+use Rattle.kbdif_events.specs.Types.{XENKBD-MT-EV-UP, XENKBD-MT-EV-MOTION, XENKBD-MT-EV-SYN, XENKBD-MT-EV-SHAPE, XENKBD-MT-EV-ORIENT}
 use Rattle.kbdif_events.specs.Event.{eventLength, between}
 use Rattle.kbdif_decode.specs.Reserved.{u64At, allZero, zeroOutside}
 use Rattle.kbdif_decode.specs.Decode.{Decoded, Event, Refused, lookup, eventAt, decoded, mayBePut}

@@ -23,7 +23,8 @@ module _ (bytes : List ℕ) where
   cut : (from until : ℕ) → from ≤ until → between bytes from until ++ drop until bytes ≡ drop from bytes
   cut from until h =
       let e : from + (until - from) ≡ until = omega arith in
-      let d : drop (until - from) (drop from bytes) ≡ drop until bytes = drop-drop (until - from) from bytes ∙ ap (λ (n : ℕ). drop n bytes) e in
+      let d : drop (until - from) (drop from bytes) ≡ drop until bytes =
+      drop-drop (until - from) from bytes ∙ ap (λ (n : ℕ). drop n bytes) e in
       rw (← d) (take-append-drop (until - from) (drop from bytes))
 
   -- four pieces, one after the other
@@ -83,5 +84,6 @@ module _ (bytes : List ℕ) where
 
       pub u32-bytes : at + 4 ≤ length bytes → u32Bytes (u32At bytes at) ≡ between bytes at (at + 4)
       u32-bytes h =
-          four-digits (getD bytes at 0) (getD bytes (at + 1) 0) (getD bytes (at + 2) 0) (getD bytes (at + 3) 0) (ok at) (ok (at + 1)) (ok (at + 2)) (ok (at + 3))
+          four-digits (getD bytes at 0) (getD bytes (at + 1) 0) (getD bytes (at + 2) 0) (getD bytes (at + 3) 0) (ok at) (ok (at + 1))
+          (ok (at + 2)) (ok (at + 3))
           ∙ sym (four-bytes h)

@@ -1,7 +1,8 @@
 -- An event that is written as numbers comes back.
 use mathlib.Core.Path.{_≡_, refl}
 use Rattle.kbdif_events.specs.declared.RingEvent.{RingEvent}
-use Rattle.kbdif_events.specs.declared.RingEvent.the-variants.{Motion, Key, Pos, TouchDown, TouchUp, TouchMotion, TouchSyn, TouchShape, TouchOrient, Unknown}
+use Rattle.kbdif_events.specs.declared.RingEvent.the-variants.{Motion, Key, Pos, TouchDown, TouchUp, TouchMotion}
+use Rattle.kbdif_events.specs.declared.RingEvent.the-variants.{TouchSyn, TouchShape, TouchOrient, Unknown}
 use Rattle.kbdif_decode.specs.Decode.{Decoded, Event, Refused, lookup, numberOf}
 use Rattle.kbdif_numbers.specs.Numbers.{numbersOf, touchOf, eventOf, foundOf}
 

@@ -122,14 +122,17 @@ module _ (page : List ℕ) (size : length page ≡ pageLength) where
 
     pub put-same : eventBytesAt after inProd ≡ event
     unfolding written
-    put-same = behind inProd ∙ subst (λ (n : ℕ). between written (eventPlace inProd) (eventPlace inProd + n) ≡ event) long (overwrite-between page (eventPlace inProd) event fits)
+    put-same = behind inProd ∙ subst (λ (n : ℕ). between written (eventPlace inProd) (eventPlace inProd + n) ≡ event) long
+        (overwrite-between page (eventPlace inProd) event fits)
 
     pub put-other : (index : ℕ) → index < inProd → inProd < index + ringLength → eventBytesAt after index ≡ eventBytesAt page index
     unfolding written
     put-other index h k =
         behind index
-        ∙ agree-between (eventPlace index) eventLength written page (omega (arith, written-length)) (omega arith) (apart (decLt (eventPlace inProd) (eventPlace index + eventLength)))
+        ∙ agree-between (eventPlace index) eventLength written page (omega (arith, written-length)) (omega arith)
+        (apart (decLt (eventPlace inProd) (eventPlace index + eventLength)))
       where
         apart : Dec (eventPlace inProd < eventPlace index + eventLength) → Agree written page (eventPlace index) eventLength
         apart (no n) = overwrite-before page (eventPlace inProd) event (eventPlace index) eventLength (omega (arith, fits)) (omega arith)
-        apart (yes n) = overwrite-after page (eventPlace inProd) event (eventPlace index) eventLength (omega (arith, fits)) (rw long (places-apart index inProd h k n))
+        apart (yes n) = overwrite-after page (eventPlace inProd) event (eventPlace index) eventLength (omega (arith, fits))
+            (rw long (places-apart index inProd h k n))

@@ -46,7 +46,8 @@ other-length [] (byte ∷ rest) h = refl
 other-length (byte ∷ rest) [] h = refl
 other-length (left ∷ lefts) (right ∷ rights) h = rw (other-length lefts rights (λ equal. h (ap suc equal))) (and-false (eqb left right))
 
-module _ (left right : List ℕ) (i : ℕ) (whole : Bool) (same-size : length left ≡ length right) (comparing : sameBytes (drop i left) (drop i right) ≡ whole) where
+module _ (left right : List ℕ) (i : ℕ) (whole : Bool) (same-size : length left ≡ length right)
+    (comparing : sameBytes (drop i left) (drop i right) ≡ whole) where
   next-bytes : i < length left → eqb (getD left i 0) (getD right i 0) && sameBytes (drop (suc i) left) (drop (suc i) right) ≡ whole
   unfolding sameBytes
   next-bytes h = let k : i < length right = omega arith in rw (drop-cons left i 0 h, drop-cons right i 0 k) at comparing
@@ -59,7 +60,8 @@ module _ (left right : List ℕ) (i : ℕ) (whole : Bool) (same-size : length le
 
   pub compared : length left ≤ i → true ≡ whole
   unfolding sameBytes
-  compared h = let k : length right ≤ i = omega arith in rw (drop-of-length-le left {i = i} h, drop-of-length-le right {i = i} k) at comparing
+  compared h = let k : length right ≤ i =
+      omega arith in rw (drop-of-length-le left {i = i} h, drop-of-length-le right {i = i} k) at comparing
 
 -- ---- what a comparison in the code tells
 

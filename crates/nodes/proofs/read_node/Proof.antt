@@ -29,7 +29,8 @@ returns c = c .read-flag-node .ensures ∙ rw (sym (c .before .before .before .b
 
 returns-2 : tie.Need-returns-2
 unfolding afterNode
-returns-2 c = c .read-number-node .ensures ∙ rw (sym (c .before .before .before .before .node-of .ensures) ∙ c .before .before .number .given .1)
+returns-2 c = c .read-number-node .ensures ∙ rw
+    (sym (c .before .before .before .before .node-of .ensures) ∙ c .before .before .number .given .1)
 
 returns-3 : tie.Need-returns-3
 unfolding afterNode

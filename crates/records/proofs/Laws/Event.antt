@@ -18,10 +18,12 @@ event-length event = refl
 
 -- the three fields, written one after the other
 pub fields-written : (bytes : List ℕ) (event : Event) → length bytes ≡ 8
-    → overwrite (overwrite (overwrite bytes 0 (u16Bytes (event .kind))) 2 (u16Bytes (event .code))) 4 (u32Bytes (event .value)) ≡ eventBytes event
+    → overwrite (overwrite (overwrite bytes 0 (u16Bytes (event .kind))) 2 (u16Bytes (event .code))) 4 (u32Bytes (event .value))
+    ≡ eventBytes event
 unfolding eventBytes
 fields-written bytes event h =
-    ap (λ (l : List ℕ). overwrite l 4 (u32Bytes (event .value))) (overwrite-next bytes 0 (u16Bytes (event .kind)) (u16Bytes (event .code)) (omega arith))
+    ap (λ (l : List ℕ). overwrite l 4 (u32Bytes (event .value)))
+    (overwrite-next bytes 0 (u16Bytes (event .kind)) (u16Bytes (event .code)) (omega arith))
     ∙ overwrite-next bytes 0 _ (u32Bytes (event .value)) (omega arith)
     ∙ overwrite-whole bytes (eventBytes event) h
 
@@ -34,13 +36,15 @@ agree-event left right at same =
       agree-u32 left right (at + 4) (λ i low high. same i (omega arith) (omega arith)),
     )
 
-pub event-back : (bytes : List ℕ) (at : ℕ) (event : Event) → EventFits event → at + 8 ≤ length bytes → eventAt (overwrite bytes at (eventBytes event)) at ≡ event
+pub event-back : (bytes : List ℕ) (at : ℕ) (event : Event) → EventFits event → at + 8 ≤ length bytes
+    → eventAt (overwrite bytes at (eventBytes event)) at ≡ event
 unfolding eventAt eventBytes
 event-back bytes at event fits h =
     let written : List ℕ = overwrite bytes at (eventBytes event) in
     let inside : at ≤ length bytes = omega arith in
     let kind : u16At written at ≡ event .kind
-    = ap (u16At written) (sym (add-zero at)) ∙ u16-inside bytes at (eventBytes event) 0 inside (omega arith) ∙ u16-digits (event .kind) (fits .kind-fits) in
+    = ap (u16At written) (sym (add-zero at)) ∙ u16-inside bytes at (eventBytes event) 0 inside (omega arith)
+    ∙ u16-digits (event .kind) (fits .kind-fits) in
     let code : u16At written (at + 2) ≡ event .code
     = u16-inside bytes at (eventBytes event) 2 inside (omega arith) ∙ u16-digits (event .code) (fits .code-fits) in
     let value : u32At written (at + 4) ≡ event .value

@@ -17,7 +17,8 @@ unfolding eventsFrom
 events-length bytes at zero = refl
 events-length bytes at (suc count) = ap suc (events-length bytes (at + 8) count)
 
-pub event-number : (bytes : List ℕ) (at count i : ℕ) (none : Event) → i < count → getD (eventsFrom bytes at count) i none ≡ eventAt bytes (at + i * 8)
+pub event-number : (bytes : List ℕ) (at count i : ℕ) (none : Event) → i < count
+    → getD (eventsFrom bytes at count) i none ≡ eventAt bytes (at + i * 8)
 unfolding eventsFrom
 event-number bytes at zero i none low = absurd (omega arith)
 event-number bytes at (suc count) zero none low = ap (eventAt bytes) (sym (add-zero at))
@@ -42,7 +43,14 @@ events-joined bytes at (suc count) event fits room =
 
 event-fits : (bytes : List ℕ) (at : ℕ) → IsBytes bytes → EventFits (eventAt bytes at)
 unfolding eventAt
-event-fits bytes at small = record { kind-fits = omega (arith, small at, small (at + 1)); code-fits = omega (arith, small (at + 2), small (at + 2 + 1)); value-fits = omega (arith, small (at + 4), small (at + 4 + 1), small (at + 4 + 2), small (at + 4 + 3)) }
+event-fits bytes at small =
+    record {
+      kind-fits = omega (arith, small at, small (at + 1));
+      code-fits =
+          omega (arith, small (at + 2), small (at + 2 + 1));
+      value-fits =
+          omega (arith, small (at + 4), small (at + 4 + 1), small (at + 4 + 2), small (at + 4 + 3));
+    }
 
 pub events-fit : (bytes : List ℕ) (at count : ℕ) → IsBytes bytes → AllFit (eventsFrom bytes at count)
 unfolding eventsFrom

@@ -42,7 +42,8 @@ module _ (ring : Ring) where
   -- ---- unread records
 
   -- the count of unread records is the one number below R that leads from the read index to the write index
-  pub unread-unique : (read count write : ℕ) → read < ring .length → count < ring .length → (read + count) % ring .length ≡ write → unreadCount ring read write ≡ count
+  pub unread-unique : (read count write : ℕ) → read < ring .length → count < ring .length → (read + count) % ring .length ≡ write
+      → unreadCount ring read write ≡ count
   unread-unique read count write r few e =
       let w : write < ring .length = omega (arith, e, mod-lt (read + count) {m = ring .length} (omega arith)) in
       elim (mod-cases (ring .length) (read + count) (omega arith)) [
@@ -75,7 +76,8 @@ module _ (ring : Ring) where
     pub unread-none : unreadCount ring read write ≡ 0 → read ≡ write
     unread-none e = sym (mod-eq-of-lt r) ∙ ap (λ (n : ℕ). n % ring .length) (sym (add-zero read)) ∙ rw e at unread-end
 
-    pub unread-more : suc (unreadCount ring read write) < ring .length → unreadCount ring read (nextIndex ring write) ≡ suc (unreadCount ring read write)
+    pub unread-more : suc (unreadCount ring read write) < ring .length
+        → unreadCount ring read (nextIndex ring write) ≡ suc (unreadCount ring read write)
     unread-more h =
         unread-unique read (suc (unreadCount ring read write)) (nextIndex ring write) r h
         (rw (add-suc, suc-mod, unread-end, add-one) (sym (rw (mod-eq-of-lt w) at (suc-mod write (ring .length)))))

@@ -25,7 +25,8 @@ module _ (size : ℕ) (ring : Ring) (holds : Holds size ring) where
   -- a record ends where the next one may begin
   place-next : (index next : ℕ) → index < next → recordPlace ring index + 8 ≤ ring .«record_size» * (next + 1)
   place-next index next h =
-      let most : ring .«record_size» * (index + 1 + 1) ≤ ring .«record_size» * (next + 1) = mul-le-mul-left (ring .«record_size») (omega arith) in
+      let most : ring .«record_size» * (index + 1 + 1) ≤ ring .«record_size» * (next + 1) =
+      mul-le-mul-left (ring .«record_size») (omega arith) in
       omega (arith, mul-add (ring .«record_size») (index + 1) 1, mul-one (ring .«record_size»))
 
   pub place-apart : (index next : ℕ) → index < next → recordPlace ring index + 8 ≤ recordPlace ring next
@@ -36,5 +37,6 @@ module _ (size : ℕ) (ring : Ring) (holds : Holds size ring) where
 
   pub pointers-inside : 8 ≤ size
   pointers-inside =
-      let least : ring .«record_size» * 1 ≤ ring .«record_size» * (ring .length + 1) = mul-le-mul-left (ring .«record_size») (omega arith) in
+      let least : ring .«record_size» * 1 ≤ ring .«record_size» * (ring .length + 1) =
+      mul-le-mul-left (ring .«record_size») (omega arith) in
       omega (arith, mul-one (ring .«record_size»))

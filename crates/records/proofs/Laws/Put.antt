@@ -43,7 +43,8 @@ module _ (ring : Ring) (area : List ℕ) (holds : Holds (length area) ring) wher
 
     written-pointers : Agree written area 0 8
     unfolding written
-    written-pointers = overwrite-before area (recordPlace ring index) (eventBytes event) 0 8 (omega (arith, fits)) (place-low (length area) ring holds index)
+    written-pointers = overwrite-before area (recordPlace ring index) (eventBytes event) 0 8 (omega (arith, fits))
+        (place-low (length area) ring holds index)
 
     -- WRITE_PTR lies before every record
     behind : (other : ℕ) → Agree (putRecord ring index event area) written (recordPlace ring other) 8
@@ -55,14 +56,16 @@ module _ (ring : Ring) (area : List ℕ) (holds : Holds (length area) ring) wher
     pub put-length : length (putRecord ring index event area) ≡ length area
     unfolding putRecord written
     put-length =
-        overwrite-length written 4 (u32Bytes (nextIndex ring index)) (omega (arith, written-length, pointers-inside (length area) ring holds))
+        overwrite-length written 4 (u32Bytes (nextIndex ring index))
+        (omega (arith, written-length, pointers-inside (length area) ring holds))
         ∙ written-length
 
     pub put-read-pointer : readPointer (putRecord ring index event area) ≡ readPointer area
     unfolding putRecord written
     put-read-pointer =
         agree-u32 (putRecord ring index event area) written 0
-        (overwrite-before written 4 (u32Bytes (nextIndex ring index)) 0 4 (omega (arith, written-length, pointers-inside (length area) ring holds)) (omega arith))
+        (overwrite-before written 4 (u32Bytes (nextIndex ring index)) 0 4
+        (omega (arith, written-length, pointers-inside (length area) ring holds)) (omega arith))
         ∙ agree-u32 written area 0 (λ i low high. written-pointers i (omega arith) (omega arith))
 
     pub put-write-pointer : writePointer (putRecord ring index event area) ≡ nextIndex ring index
@@ -79,14 +82,16 @@ module _ (ring : Ring) (area : List ℕ) (holds : Holds (length area) ring) wher
         ∙ event-back area (recordPlace ring index) event ok (place-inside (length area) ring holds index inside)
 
     -- other records stay
-    pub put-other : (other : ℕ) → other ≢ index → eventAt (putRecord ring index event area) (recordPlace ring other) ≡ eventAt area (recordPlace ring other)
+    pub put-other : (other : ℕ) → other ≢ index → eventAt (putRecord ring index event area) (recordPlace ring other)
+        ≡ eventAt area (recordPlace ring other)
     unfolding written
     put-other other n =
         agree-event (putRecord ring index event area) written (recordPlace ring other) (behind other)
         ∙ agree-event written area (recordPlace ring other) (apart (decLt other index))
       where
         apart : Dec (other < index) → Agree written area (recordPlace ring other) 8
-        apart (yes h) = overwrite-before area (recordPlace ring index) (eventBytes event) (recordPlace ring other) 8 (omega (arith, fits)) (place-apart (length area) ring holds other index h)
+        apart (yes h) = overwrite-before area (recordPlace ring index) (eventBytes event) (recordPlace ring other) 8 (omega (arith, fits))
+            (place-apart (length area) ring holds other index h)
         apart (no h) =
             overwrite-after area (recordPlace ring index) (eventBytes event) (recordPlace ring other) 8 (omega (arith, fits))
             (rw (event-length event) (place-apart (length area) ring holds index other (omega arith)))

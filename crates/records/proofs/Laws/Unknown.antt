@@ -35,7 +35,8 @@ module _ (ring : Ring) (left right : List ℕ) (same : SameToDriver ring left ri
       → take 8 (drop (recordPlace ring (index % ring .length)) left) ≡ take 8 (drop (recordPlace ring (index % ring .length)) right)
   same-bytes holds some index =
       let inside = place-inside (length left) ring holds (index % ring .length) (mod-lt index some) in
-      agree-stretch left right (recordPlace ring (index % ring .length)) 8 (same .same-records (index % ring .length) (mod-lt index some)) inside (rw (← same .same-length) inside)
+      agree-stretch left right (recordPlace ring (index % ring .length)) 8 (same .same-records (index % ring .length) (mod-lt index some))
+      inside (rw (← same .same-length) inside)
 
   -- moving the read pointer keeps them the same
   pub same-moved : Holds (length left) ring → (index : ℕ) → SameToDriver ring (withReadPointer left index) (withReadPointer right index)
@@ -54,7 +55,8 @@ module _ (ring : Ring) (left right : List ℕ) (same : SameToDriver ring left ri
       written : (area : List ℕ) (i : ℕ) → i < 4 → getD (withReadPointer area index) i 0 ≡ getD (u32Bytes index) i 0
       written area i h = rw zero-add at (overwrite-inside area 0 (u32Bytes index) i (omega arith) (omega arith))
 
-      pointer : Holds (length right) ring → (i : ℕ) → i < 0 + 8 → Dec (i < 4) → getD (withReadPointer left index) i 0 ≡ getD (withReadPointer right index) i 0
+      pointer : Holds (length right) ring → (i : ℕ) → i < 0 + 8 → Dec (i < 4)
+          → getD (withReadPointer left index) i 0 ≡ getD (withReadPointer right index) i 0
       pointer holds′ i h (yes low) = written left i low ∙ sym (written right i low)
       pointer holds′ i h (no high) =
           moved-elsewhere ring left holds index 4 4 (omega arith) i (omega arith) (omega arith)

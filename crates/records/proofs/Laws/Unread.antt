@@ -33,7 +33,8 @@ module _ (ring : Ring) (area : List ℕ) where
       cc (records-modulo count (suc i) (suc j) next)
 
   -- the last record of a run
-  pub records-last : (index count : ℕ) → recordsFrom ring area index (suc count) ≡ recordsFrom ring area index count ++ (recordAt ring area (index + count) ∷ [])
+  pub records-last : (index count : ℕ) → recordsFrom ring area index (suc count)
+      ≡ recordsFrom ring area index count ++ (recordAt ring area (index + count) ∷ [])
   unfolding recordsFrom
   records-last index zero = rw add-zero
   records-last index (suc count) =
@@ -52,7 +53,8 @@ module _ (ring : Ring) (area : List ℕ) (holds : Holds (length area) ring) wher
   -- ---- a put
 
   -- records that end right before the place of the put
-  put-keeps : (write : ℕ) (event : Event) → write < ring .length → (count index : ℕ) → count < ring .length → (index + count) % ring .length ≡ write
+  put-keeps : (write : ℕ) (event : Event) → write < ring .length → (count index : ℕ) → count < ring .length
+      → (index + count) % ring .length ≡ write
       → recordsFrom ring (putRecord ring write event area) index count ≡ recordsFrom ring area index count
   unfolding recordsFrom
   put-keeps write event w zero index few e = refl
@@ -63,7 +65,8 @@ module _ (ring : Ring) (area : List ℕ) (holds : Holds (length area) ring) wher
         put-keeps write event w count (suc index) (omega arith) (rw (suc-add, ← add-suc) e),
       )
 
-  pub put-appends : (read write : ℕ) (event : Event) → read < ring .length → write < ring .length → EventFits event → suc (unreadCount ring read write) < ring .length
+  pub put-appends : (read write : ℕ) (event : Event) → read < ring .length → write < ring .length → EventFits event
+      → suc (unreadCount ring read write) < ring .length
       → unread ring (putRecord ring write event area) read (nextIndex ring write) ≡ unread ring area read write ++ (event ∷ [])
   put-appends read write event r w ok room =
       let after : List ℕ = putRecord ring write event area in
@@ -76,15 +79,18 @@ module _ (ring : Ring) (area : List ℕ) (holds : Holds (length area) ring) wher
   -- ---- a moved read pointer, and a read
 
   pub moved-keeps : (moved index count : ℕ) → recordsFrom ring (withReadPointer area moved) index count ≡ recordsFrom ring area index count
-  moved-keeps moved index count = same-records ring (withReadPointer area moved) area (λ i. moved-record ring area holds moved (i % ring .length)) index count
+  moved-keeps moved index count =
+      same-records ring (withReadPointer area moved) area (λ i. moved-record ring area holds moved (i % ring .length)) index count
 
   pub read-drops : (read write : ℕ) → read < ring .length → write < ring .length → read ≢ write
-      → unread ring area read write ≡ eventAt area (recordPlace ring read) ∷ unread ring (withReadPointer area (nextIndex ring read)) (nextIndex ring read) write
+      → unread ring area read write ≡ eventAt area (recordPlace ring read) ∷
+      unread ring (withReadPointer area (nextIndex ring read)) (nextIndex ring read) write
   unfolding recordsFrom
   read-drops read write r w n = go (unreadCount ring read write) refl
     where
       go : (count : ℕ) → unreadCount ring read write ≡ count
-          → unread ring area read write ≡ eventAt area (recordPlace ring read) ∷ unread ring (withReadPointer area (nextIndex ring read)) (nextIndex ring read) write
+          → unread ring area read write ≡ eventAt area (recordPlace ring read) ∷
+          unread ring (withReadPointer area (nextIndex ring read)) (nextIndex ring read) write
       go zero e = absurd (n (unread-none ring read write r w e))
       go (suc count) e =
           let next : nextIndex ring read ≡ suc read % ring .length = rw add-one in

@@ -14,7 +14,8 @@ add-result : tie.Need-add-result
 add-result c = search needs
 
 returns-2 : tie.Need-returns-2
-returns-2 c = unread-round (c .before .before .args .ring) _ _ (c .before .before .pre .0) (c .before .before .pre .1) (c .before .if1 .left)
+returns-2 c = unread-round (c .before .before .args .ring) _ _ (c .before .before .pre .0)
+    (c .before .before .pre .1) (c .before .if1 .left)
 
 pub unread-count-spec : {M : Type 1} → statement M
 unread-count-spec = tie.close (tie.spec returns sub-result add-result returns-2)

@@ -22,7 +22,8 @@ use Rattle.device.specs.State.{freshProducer, mayRun}
 use Rattle.device.specs.Result.{Result}
 use Rattle.device.proofs.Laws.Rules.{Rules, rules-isr, rules-control, rules-client-rev, rules-producer, rules-write-index, none-current}
 use Rattle.access.specs.declared.Place.{Place}
-use Rattle.access.specs.declared.Place.the-variants.{Magic, Rev, Control, EventSize, Npages, Acceleration, Isr, ConfSize, ClientRev, ReadPtr, EventArea, EntryPage, Nothing}
+use Rattle.access.specs.declared.Place.the-variants.{Magic, Rev, Control, EventSize, Npages, Acceleration, Isr}
+use Rattle.access.specs.declared.Place.the-variants.{ConfSize, ClientRev, ReadPtr, EventArea, EntryPage, Nothing}
 use Rattle.access.specs.Place.{placeOf}
 use Rattle.access.specs.Access.{accessAnswer}
 use Rattle.access.proofs.Laws.Access.{granted}
@@ -52,7 +53,8 @@ module _ (geometry : Geometry) (device : Device) (keeps : Rules geometry device)
         let s = sizes geometry sized in
         rw (always-starts geometry device sized area (bit value 1))
         (rules-write-index
-        (rules-producer (rules-control keeps true (bit value 1) (λ on. may)) freshProducer (omega (arith, s)) (none-current (device .taken)))
+        (rules-producer (rules-control keeps true (bit value 1) (λ on. may)) freshProducer (omega (arith, s))
+        (none-current (device .taken)))
         _ (after-inside (ringOf geometry) 0 (startRecords geometry device) (omega (arith, s))))
 
     control-keeps : Rules geometry (controlOf geometry device area value .outcome .device)
@@ -90,7 +92,8 @@ module _ (geometry : Geometry) (device : Device) (keeps : Rules geometry device)
 
 -- ---- the event area's length
 
-module _ (geometry : Geometry) (device : Device) (area : List ℕ) (value : ℕ) (sized : allowed geometry ≡ true) (holds : Holds (length area) (ringOf geometry)) where
+module _ (geometry : Geometry) (device : Device) (area : List ℕ) (value : ℕ) (sized : allowed geometry ≡ true)
+    (holds : Holds (length area) (ringOf geometry)) where
   room : 8 ≤ length area
   room = pointers-inside (length area) (ringOf geometry) holds
 
@@ -103,7 +106,8 @@ module _ (geometry : Geometry) (device : Device) (area : List ℕ) (value : ℕ)
   switch-size : (interrupts : Bool) → length (switchOn geometry device area interrupts .area) ≡ length area
   switch-size interrupts =
       rw (always-starts geometry device sized area interrupts)
-      (puts-length (ringOf geometry) 0 (startRecords geometry device) (clearedPointers area) (rw cleared-size holds) (omega (arith, sizes geometry sized)) ∙ cleared-size)
+      (puts-length (ringOf geometry) 0 (startRecords geometry device) (clearedPointers area) (rw cleared-size holds)
+      (omega (arith, sizes geometry sized)) ∙ cleared-size)
 
   control-size : length (controlOf geometry device area value .area) ≡ length area
   unfolding controlOf
@@ -126,9 +130,11 @@ module _ (geometry : Geometry) (device : Device) (area : List ℕ) (value : ℕ)
   effect-size EntryPage = refl
   effect-size Nothing = refl
 
-pub write-size : (geometry : Geometry) (device : Device) (area : List ℕ) (pageSize offset width value : ℕ) → length (writeOf geometry device area pageSize offset width value .area) ≡ length area
+pub write-size : (geometry : Geometry) (device : Device) (area : List ℕ) (pageSize offset width value : ℕ)
+    → length (writeOf geometry device area pageSize offset width value .area) ≡ length area
 unfolding writeOf
 write-size geometry device area pageSize offset width value =
     either (λ (r : Result). length (r .area) ≡ length area) (eqb (accessAnswer geometry device (length area) pageSize true offset width) 0)
-    (λ done. let call = granted _ _ _ _ _ _ _ (eqb-true _ 0 done) .is-call in effect-size geometry device area value (call .is-allowed) (call .holds) (placeOf geometry offset))
+    (λ done. let call = granted _ _ _ _ _ _ _ (eqb-true _ 0 done) .is-call in effect-size geometry device area value (call .is-allowed)
+    (call .holds) (placeOf geometry offset))
     (λ refused. refl)

@@ -12,8 +12,10 @@ use Rattle.access.specs.Place.{placeOf}
 use Rattle.access.specs.Access.{accessAnswer}
 use Rattle.registers.specs.Read.{valueOf, readOf}
 
-module _ (geometry : Geometry) (device : Device) (area page : List ℕ) (offset width : ℕ) {answer : ℕ} (judged : answer ≡ accessAnswer geometry device (length area) (length page) false offset width) where
-  pub read-refused : (answer ≡ 0 → ⊥) → _≡_ {A = Value} (record { answer = answer; value = 0 }) (readOf geometry device area page offset width)
+module _ (geometry : Geometry) (device : Device) (area page : List ℕ) (offset width : ℕ) {answer : ℕ}
+    (judged : answer ≡ accessAnswer geometry device (length area) (length page) false offset width) where
+  pub read-refused : (answer ≡ 0 → ⊥) → _≡_ {A = Value} (record { answer = answer; value = 0 })
+      (readOf geometry device area page offset width)
   unfolding readOf
   read-refused h = rw (← judged, ne-eqb answer 0 h)
 

@@ -75,34 +75,49 @@ module _ {M : Type 1} (𝓤 : URA M) (H : Heap 𝓤) (A : Atoms 𝓤) (mem : Mem
     Ruled (settings, (name, (value, end))) r zs = r ≡ readNode (settings .now) (name .now) (value .now)
 
     module _ (W : Given 𝓤 H A) (C : Calls 𝓤 H) (Λ : Loops 𝓤 H) (fm : FmC 𝓤 H (W .laws) C) (known : Triple 𝓤 (C #rule) Rule) where
-      walk : Walk (self.signature .outlives) parameters (self.signature .result) 𝓤 H A (self.clauses 𝓤 H A mem run) code.function C Λ κs qs bounds a tt
+      walk : Walk (self.signature .outlives) parameters (self.signature .result) 𝓤 H A (self.clauses 𝓤 H A mem run)
+          code.function C Λ κs qs bounds a tt
       walk are =
-          qed W (tokens 𝓤 3 κs qs ∷ ‵ (owns (typesAt (slots parameters) κs) a (valuesOf parameters κs a)) ∷ []) ∵ enter ! C Λ code.function _ _ $
+          qed W (tokens 𝓤 3 κs qs ∷ ‵ (owns (typesAt (slots parameters) κs) a (valuesOf parameters κs a)) ∷ []) ∵
+          enter ! C Λ code.function _ _ $
           allocs-all ! (λ l. passes-all ! (typed-all 𝓤 H A W parameters κs a _ are) refl $
           -- [the six locals; what frees them; the tokens; what the parameters own]
-          move ! (7 ∷ 8 ∷ []) $ lent ! tt SettingsT.the-type SettingsL.the-laws (settings .now) (settings .ptr .0) (settings .ptr .1) (λ was. move ! (positions 7 7) $
-          -- [the locals; what frees them; the state's cell; its open borrow and two ghosts; what it owns; the other tokens; what the other parameters own]
-          assigns ! (of-opd ! (load ! (from ! (hop ! (look ! 1 refl) (stop !))) (look-raw ! 7 refl))) (from ! (stop !)) (init ! 5 refl (LL.lawful SettingsT.the-type SettingsL.the-laws 𝓤 H A W .typed (settings .now) _ was .0)) $
+          move ! (7 ∷ 8 ∷ []) $ lent ! tt SettingsT.the-type SettingsL.the-laws (settings .now) (settings .ptr .0) (settings .ptr .1)
+          (λ was. move ! (positions 7 7) $
+          -- [the locals; what frees them; the state's cell; its open borrow and two ghosts; what it owns; the other tokens; what the
+          -- other parameters own]
+          assigns ! (of-opd ! (load ! (from ! (hop ! (look ! 1 refl) (stop !))) (look-raw ! 7 refl))) (from ! (stop !))
+          (init ! 5 refl (LL.lawful SettingsT.the-type SettingsL.the-laws 𝓤 H A W .typed (settings .now) _ was .0)) $
           move ! (12 ∷ 11 ∷ 13 ∷ []) $ asks ! (Rule .pre to-rule) refl $
           -- [what the call asks; the locals; …]
-          calls-at ! fm Rule known to-rule (and-then ! (in-local ! 6 refl) (and-then ! (in-local ! 3 refl) (and-then ! (in-local ! 4 refl) (no-more !)))) (λ w.
-          answers W NodeAnswerT.the-type NodeAnswerL.the-laws (tokens 𝓤 2 (κs .1) (qs .1)) w (Lasts rule.ended (κs .1) passed) (lasts rule.ended (κs .1) passed) (Ruled a) (λ r zs e is.
+          calls-at ! fm Rule known to-rule
+          (and-then ! (in-local ! 6 refl) (and-then ! (in-local ! 3 refl) (and-then ! (in-local ! 4 refl) (no-more !)))) (λ w.
+          answers W NodeAnswerT.the-type NodeAnswerL.the-laws (tokens 𝓤 2 (κs .1) (qs .1)) w (Lasts rule.ended (κs .1) passed)
+          (lasts rule.ended (κs .1) passed) (Ruled a) (λ r zs e is.
           unsaid ! $ unsaid ! $ unsaid ! $ drop ! $ move ! (positions 1 11) $
           -- [the locals; what frees them; the state's cell; its open borrow and two ghosts; the other tokens]
           land ! (from ! (stop !)) (init ! 4 refl (LL.lawful NodeAnswerT.the-type NodeAnswerL.the-laws 𝓤 H A W .typed r _ is .0)) $
           let fields = LL.owed NodeAnswerT.the-type NodeAnswerL.the-laws r _ is in
-          assigns ! (of-opd ! (load ! (from ! (fld ! refl (stop !))) (look-in ! 4 (sub ! 1 refl (whole !))))) (from ! (hop ! (look ! 1 refl) (stop !))) (store-raw ! 7 refl (LL.lawful SettingsT.the-type SettingsL.the-laws 𝓤 H A W .typed (r .settings) _ (fields .1 .0) .0)) $
-          assigns ! (of-opd ! (load ! (from ! (fld ! refl (stop !))) (look-in ! 4 (sub ! 0 refl (whole !))))) (from ! (stop !)) (init ! 0 refl (tt, record { fits = fields .0 .1 })) $
-          move ! (positions 7 4) $ given-back ! tt SettingsT.the-type SettingsL.the-laws SettingsL.the-plain (r .settings) (settings .ptr .0) (settings .ptr .1) (fields .1 .0) $
+          assigns ! (of-opd ! (load ! (from ! (fld ! refl (stop !))) (look-in ! 4 (sub ! 1 refl (whole !)))))
+          (from ! (hop ! (look ! 1 refl) (stop !)))
+          (store-raw ! 7 refl (LL.lawful SettingsT.the-type SettingsL.the-laws 𝓤 H A W .typed (r .settings) _ (fields .1 .0) .0)) $
+          assigns ! (of-opd ! (load ! (from ! (fld ! refl (stop !))) (look-in ! 4 (sub ! 0 refl (whole !))))) (from ! (stop !))
+          (init ! 0 refl (tt, record { fits = fields .0 .1 })) $
+          move ! (positions 7 4) $
+          given-back ! tt SettingsT.the-type SettingsL.the-laws SettingsL.the-plain (r .settings) (settings .ptr .0)
+          (settings .ptr .1) (fields .1 .0) $
           -- [what is known of the state; its borrow; the token; the locals; what frees them; the other tokens]
           returns ! (look ! 3 refl) $ move ! (positions 3 7) $ frees-all ! (_ ∷ _ ∷ _ ∷ _ ∷ _ ∷ _ ∷ []) _ refl $
-          suffices ! _ (ends-at 𝓤 H A self.ended (stays parameters) (self.clauses 𝓤 H A mem run) W ((κs, qs, bounds, a, valuesOf parameters κs a), tt) _ (r .answer) (r .settings, (tt, (tt, tt))) (tt, (tt, (tt, tt)))) $
+          suffices ! _ (ends-at 𝓤 H A self.ended (stays parameters) (self.clauses 𝓤 H A mem run) W
+          ((κs, qs, bounds, a, valuesOf parameters κs a), tt) _ (r .answer) (r .settings, (tt, (tt, tt))) (tt, (tt, (tt, tt)))) $
           says ! (ap (λ (z : NodeAnswer). z .answer) e, ap (λ (z : NodeAnswer). z .settings) e) $ move ! (2 ∷ 3 ∷ []) $ join ! $ frame ! $
           -- what is had of the parameters, from the last to the first; and the result
-          feqI ! (List Val) (ptr-vals settings) (ptr-vals settings) refl $ fjoin3 ! $ nothing ! $ nothing ! $ fjoin ! $ nothing ! $ fjoin ! $ move ! (1 ∷ 0 ∷ []) $ fjoin ! $ frame ! $
+          feqI ! (List Val) (ptr-vals settings) (ptr-vals settings) refl $ fjoin3 ! $ nothing ! $ nothing ! $ fjoin ! $ nothing ! $
+          fjoin ! $ move ! (1 ∷ 0 ∷ []) $ fjoin ! $ frame ! $
           owned ! u8 (Is u8) (uint-makes 𝓤 H A W w8) (r .answer) _ (refl, fields .0 .1) $ done !))))
 
-  met : Given 𝓤 H A → (𝓣 : Tables 𝓤 H) → Triple 𝓤 (𝓣 .C #rule) Rule → Meets 𝓤 H A self.signature (WpFn 𝓤 H (𝓣 .C) (𝓣 .Λ) code.function) (self.spec 𝓤 H A mem run)
+  met : Given 𝓤 H A → (𝓣 : Tables 𝓤 H) → Triple 𝓤 (𝓣 .C #rule) Rule
+      → Meets 𝓤 H A self.signature (WpFn 𝓤 H (𝓣 .C) (𝓣 .Λ) code.function) (self.spec 𝓤 H A mem run)
   met W 𝓣 known =
       meets (self.signature .outlives) parameters (self.signature .result) 𝓤 H A (self.clauses 𝓤 H A mem run) code.function W 𝓣
       (λ κs qs bounds a _. walk κs qs bounds a W (𝓣 .C) (𝓣 .Λ) (fmOf 𝓤 H (W .laws) 𝓣) known)

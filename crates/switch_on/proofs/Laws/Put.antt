@@ -30,7 +30,8 @@ module _ (ring : Ring) (index : ℕ) (events : List Event) (start : List ℕ) wh
       → Put ring at first area after next → length after ≡ length area → Remains ring index events start after next rest
   goes-on {after = after} {next = next} {rest = rest} remains put kept =
       let ready = put-ready ring (remains .holds) (remains .inside) put in
-      let others : Put ring next rest after (putRecords ring next rest after) (indexAfter ring next rest) = record { ends = refl; holds = refl } in
+      let others : Put ring next rest after (putRecords ring next rest after) (indexAfter ring next rest) =
+      record { ends = refl; holds = refl } in
       let all = put-next ring put others in
       record {
         holds = ready .0;
@@ -48,14 +49,16 @@ module _ (ring : Ring) (index : ℕ) (events : List Event) (start : List ℕ) wh
 
 -- the records of the slots from `slot` on remain
 abbrev pub SlotsRemain : Ring → ℕ → ℕ → ℕ → List ℕ → List ℕ → ℕ → ℕ → Type 0
-SlotsRemain ring index taken slots start area at slot = Remains ring index (slotRecords taken 0 slots) start area at (slotRecords taken slot (slots - slot))
+SlotsRemain ring index taken slots start area at slot =
+    Remains ring index (slotRecords taken 0 slots) start area at (slotRecords taken slot (slots - slot))
 
 module _ (ring : Ring) (index taken slots : ℕ) (start : List ℕ) where
   pub slots-begin : Holds (length start) ring → index < ring .length → SlotsRemain ring index taken slots start start index 0
   slots-begin h k = rw sub-zero (begins ring index (slotRecords taken 0 slots) start h k)
 
   module _ {area : List ℕ} {at slot : ℕ} (remain : SlotsRemain ring index taken slots start area at slot) where
-    pub slots-go-on : slot < slots → {after : List ℕ} {next : ℕ} → Put ring at (slotRecord taken slot) area after next → length after ≡ length area
+    pub slots-go-on : slot < slots → {after : List ℕ} {next : ℕ} → Put ring at (slotRecord taken slot) area after next
+        → length after ≡ length area
         → SlotsRemain ring index taken slots start after next (slot + 1)
     slots-go-on h put kept =
         let left : slots - slot ≡ suc (slots - suc slot) = omega arith in

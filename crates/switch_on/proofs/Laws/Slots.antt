@@ -27,11 +27,13 @@ module _ (taken : ℕ) where
   split-length true slot rest = omega arith
   split-length false slot rest = omega arith
 
-  pub count-more : (slot count : ℕ) → length (takenFrom taken slot (suc count)) ≡ bitOf (bit taken slot) + length (takenFrom taken (suc slot) count)
+  pub count-more : (slot count : ℕ) → length (takenFrom taken slot (suc count))
+      ≡ bitOf (bit taken slot) + length (takenFrom taken (suc slot) count)
   unfolding takenFrom
   count-more slot count = split-length (bit taken slot) slot (takenFrom taken (suc slot) count)
 
-  split-records : (test : Bool) (slot : ℕ) (rest : List ℕ) → map (devRecord DEV-CONF) (cond test (slot ∷ rest) rest) ≡ cond test (devRecord DEV-CONF slot ∷ []) [] ++ map (devRecord DEV-CONF) rest
+  split-records : (test : Bool) (slot : ℕ) (rest : List ℕ) → map (devRecord DEV-CONF) (cond test (slot ∷ rest) rest)
+      ≡ cond test (devRecord DEV-CONF slot ∷ []) [] ++ map (devRecord DEV-CONF) rest
   split-records true slot rest = refl
   split-records false slot rest = refl
 
@@ -75,11 +77,13 @@ module _ (taken : ℕ) where
 
   -- ---- their records fit
 
-  split-fits : (test : Bool) (slot : ℕ) (rest : List ℕ) → slot < 2 ^ 32 → AllFit (map (devRecord DEV-CONF) rest) → AllFit (map (devRecord DEV-CONF) (cond test (slot ∷ rest) rest))
+  split-fits : (test : Bool) (slot : ℕ) (rest : List ℕ) → slot < 2 ^ 32 → AllFit (map (devRecord DEV-CONF) rest)
+      → AllFit (map (devRecord DEV-CONF) (cond test (slot ∷ rest) rest))
   split-fits true slot rest h fits = (record { kind-fits = omega arith; code-fits = omega arith; value-fits = h }, fits)
   split-fits false slot rest h fits = fits
 
   pub slots-fit : (slot count : ℕ) → slot + count ≤ 2 ^ 32 → AllFit (slotRecords taken slot count)
   unfolding takenFrom
   slots-fit slot zero h = tt
-  slots-fit slot (suc count) h = split-fits (bit taken slot) slot (takenFrom taken (suc slot) count) (omega arith) (slots-fit (suc slot) count (omega arith))
+  slots-fit slot (suc count) h =
+      split-fits (bit taken slot) slot (takenFrom taken (suc slot) count) (omega arith) (slots-fit (suc slot) count (omega arith))

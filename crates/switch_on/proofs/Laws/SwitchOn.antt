@@ -52,7 +52,8 @@ module _ (geometry : Geometry) (device : Device) (sized : allowed geometry ≡ t
       omega (arith, start-count geometry device, few-taken (device .taken) 0 (slotCount geometry), few-slots geometry s)
 
   -- so a switch-on is never refused
-  pub always-starts : (area : List ℕ) (interrupts : Bool) → switchOn geometry device area interrupts ≡ started geometry device area interrupts
+  pub always-starts : (area : List ℕ) (interrupts : Bool) → switchOn geometry device area interrupts
+      ≡ started geometry device area interrupts
   unfolding switchOn
   always-starts area interrupts = rw (le-leb (length (startRecords geometry device)) (ringLength geometry - 1) start-fits)
 

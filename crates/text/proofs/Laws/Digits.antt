@@ -46,14 +46,16 @@ decimal-written start at bytes count value counted written = rw counted at writt
 
 -- ---- the loop that stores digits: what remains is the first `left` digits
 
-module _ (start : List ℕ) (at : ℕ) (whole bytes : List ℕ) (left value : ℕ) (remains : Remains start at whole bytes at (digits left value)) where
+module _ (start : List ℕ) (at : ℕ) (whole bytes : List ℕ) (left value : ℕ)
+    (remains : Remains start at whole bytes at (digits left value)) where
   pub digits-go-on : 0 < left → at + left ≤ length bytes
       → Remains start at whole (set bytes (at + (left - 1)) (48 + value % 10)) at (digits (left - 1) (value / 10))
   unfolding digits
   digits-go-on h k =
       let one-more : left ≡ suc (left - 1) = omega arith in
       let n : length (digits (left - 1) (value / 10)) ≡ left - 1 = digits-length (left - 1) (value / 10) in
-      rw n at (last-stored start at whole bytes at (48 + value % 10) (digits (left - 1) (value / 10)) (omega arith) (rw one-more at remains))
+      rw n at (last-stored start at whole bytes at (48 + value % 10) (digits (left - 1) (value / 10)) (omega arith)
+      (rw one-more at remains))
 
   pub digits-end : left ≡ 0 → bytes ≡ overwrite start at whole
   unfolding digits

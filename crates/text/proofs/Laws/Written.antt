@@ -7,7 +7,8 @@ use lib.ListN.{length, length-append}
 use Rattle.copying.proofs.Laws.Overwrite.{overwrite-length, overwrite-next}
 use Rattle.text.specs.Text.{Written}
 
-module _ {before : List ℕ} {at : ℕ} {text middle : List ℕ} {end : ℕ} (first : Written before at text middle end) (fits : at + length text ≤ length before) where
+module _ {before : List ℕ} {at : ℕ} {text middle : List ℕ} {end : ℕ} (first : Written before at text middle end)
+    (fits : at + length text ≤ length before) where
   pub written-length : length middle ≡ length before
   written-length = rw (first .holds) (overwrite-length before at text fits)
 

@@ -37,8 +37,11 @@ loop-less c = search needs
 
 loop-again : tie.Need-loop-again Inv-loop μ-loop
 loop-again c = let a = c .before .before .args in
-    let loop = c .before .loop in
-    (omega arith, digits-go-on (a .out .now) (a .at) (digits (a .count) (a .value)) (loop .out) (loop .left) (loop .rest) (loop .inv .1) (omega arith) (omega arith))
+    let loop = c .before .loop in (
+      omega arith,
+      digits-go-on (a .out .now) (a .at) (digits (a .count) (a .value)) (loop .out) (loop .left) (loop .rest) (loop .inv .1)
+          (omega arith) (omega arith),
+    )
 
 same-length : tie.Need-same-length Inv-loop μ-loop
 same-length c = search needs

@@ -12,7 +12,8 @@ returns : tie.Need-returns
 returns c = let a = c .before .before .args in join-ignored (a .driver) (a .event) (a .packet .now) (c .if1 .taken)
 
 returns-2 : tie.Need-returns-2
-returns-2 c = let a = c .before .before .before .args in join-full (a .driver) (a .event) (a .packet .now) (c .before .if1 .left) (c .if2 .taken)
+returns-2 c = let a = c .before .before .before .args in join-full (a .driver) (a .event) (a .packet .now)
+    (c .before .if1 .left) (c .if2 .taken)
 
 cast-at : tie.Need-cast-at
 cast-at c = search needs

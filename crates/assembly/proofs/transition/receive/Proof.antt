@@ -102,43 +102,53 @@ returns c =
 returns-2 : tie.Need-returns-2
 returns-2 c =
     let a = c .before .before .before .before .before .before .args in
-    none-joins (a .geometry) (a .event) (a .driver) (a .packet .now) kind.SynDropped (sym (c .before .before .before .before .kind-of .ensures) ∙ c .before .before .enum-told2 .given .1) zero-le
+    none-joins (a .geometry) (a .event) (a .driver) (a .packet .now) kind.SynDropped
+    (sym (c .before .before .before .before .kind-of .ensures) ∙ c .before .before .enum-told2 .given .1) zero-le
     (c .tell2 .ensures ∙ rw (c .before .end2 .ensures))
 
 returns-3 : tie.Need-returns-3
 returns-3 c =
     let a = c .before .before .before .before .before .before .args in
-    none-joins (a .geometry) (a .event) (a .driver) (a .packet .now) kind.DevSet (sym (c .before .before .before .before .kind-of .ensures) ∙ c .before .before .enum-told3 .given .1) (le-of-eq (moved-held (a .event .value) (a .driver)))
+    none-joins (a .geometry) (a .event) (a .driver) (a .packet .now) kind.DevSet
+    (sym (c .before .before .before .before .kind-of .ensures) ∙ c .before .before .enum-told3 .given .1)
+    (le-of-eq (moved-held (a .event .value) (a .driver)))
     (c .tell3 .ensures ∙ rw (c .before .move-to .ensures))
 
 returns-4 : tie.Need-returns-4
 returns-4 c =
     let a = c .before .before .before .before .before .args in
-    none-joins (a .geometry) (a .event) (a .driver) (a .packet .now) kind.DevConf (sym (c .before .before .before .kind-of .ensures) ∙ c .before .enum-told4 .given .1) (le-refl _)
+    none-joins (a .geometry) (a .event) (a .driver) (a .packet .now) kind.DevConf
+    (sym (c .before .before .before .kind-of .ensures) ∙ c .before .enum-told4 .given .1) (le-refl _)
     (c .tell4 .ensures)
 
 returns-5 : tie.Need-returns-5
 returns-5 c =
     let a = c .before .before .before .before .before .before .args in
-    none-joins (a .geometry) (a .event) (a .driver) (a .packet .now) kind.DevReset (sym (c .before .before .before .before .kind-of .ensures) ∙ c .before .before .enum-told5 .given .1) (le-of-eq (without-held _ _))
+    none-joins (a .geometry) (a .event) (a .driver) (a .packet .now) kind.DevReset
+    (sym (c .before .before .before .before .kind-of .ensures) ∙ c .before .before .enum-told5 .given .1) (le-of-eq (without-held _ _))
     (c .tell5 .ensures ∙ rw (c .before .leave .ensures))
 
 returns-6 : tie.Need-returns-6
 returns-6 c =
     let a = c .before .before .before .before .before .before .args in
-    none-joins (a .geometry) (a .event) (a .driver) (a .packet .now) kind.DevResetAll (sym (c .before .before .before .before .kind-of .ensures) ∙ c .before .before .enum-told6 .given .1) (le-of-eq (moved-held noSlot (a .driver)))
+    none-joins (a .geometry) (a .event) (a .driver) (a .packet .now) kind.DevResetAll
+    (sym (c .before .before .before .before .kind-of .ensures) ∙ c .before .before .enum-told6 .given .1)
+    (le-of-eq (moved-held noSlot (a .driver)))
     (c .tell6 .ensures ∙ rw (c .before .move-to2 .ensures))
 
 returns-7 : tie.Need-returns-7
 returns-7 c =
     let a = c .before .before .before .before .before .before .args in
-    none-joins (a .geometry) (a .event) (a .driver) (a .packet .now) kind.BadDevSet (sym (c .before .before .before .before .kind-of .ensures) ∙ c .before .before .enum-told7 .given .1) (le-of-eq (moved-held noSlot (a .driver)))
+    none-joins (a .geometry) (a .event) (a .driver) (a .packet .now) kind.BadDevSet
+    (sym (c .before .before .before .before .kind-of .ensures) ∙ c .before .before .enum-told7 .given .1)
+    (le-of-eq (moved-held noSlot (a .driver)))
     (c .tell7 .ensures ∙ rw (c .before .move-to3 .ensures))
 
 returns-8 : tie.Need-returns-8
 returns-8 c =
     let a = c .before .before .before .before .before .args in
-    none-joins (a .geometry) (a .event) (a .driver) (a .packet .now) kind.BadDev (sym (c .before .before .before .kind-of .ensures) ∙ c .before .enum-told8 .given .1) (le-refl _)
+    none-joins (a .geometry) (a .event) (a .driver) (a .packet .now) kind.BadDev
+    (sym (c .before .before .before .kind-of .ensures) ∙ c .before .enum-told8 .given .1) (le-refl _)
     (c .tell8 .ensures)
 
 same-length : tie.Need-same-length

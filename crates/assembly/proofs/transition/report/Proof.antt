@@ -18,11 +18,21 @@ returns-3 c = rw (c .before .before .if1 .left, c .before .if2 .left, c .if3 .ta
 
 returns-4 : tie.Need-returns-4
 unfolding reported
-returns-4 c = rw (c .before .before .before .before .if1 .left, c .before .before .before .if2 .left, c .before .before .if3 .left, eq-eqb _ _ (c .if4 .taken))
+returns-4 c = rw (
+  c .before .before .before .before .if1 .left,
+  c .before .before .before .if2 .left,
+  c .before .before .if3 .left,
+  eq-eqb _ _ (c .if4 .taken),
+)
 
 returns-5 : tie.Need-returns-5
 unfolding reported
-returns-5 c = rw (c .before .before .before .before .if1 .left, c .before .before .before .if2 .left, c .before .before .if3 .left, ne-eqb _ _ (c .if4 .left))
+returns-5 c = rw (
+  c .before .before .before .before .if1 .left,
+  c .before .before .before .if2 .left,
+  c .before .before .if3 .left,
+  ne-eqb _ _ (c .if4 .left),
+)
 
 pub report-spec : {M : Type 1} → statement M
 report-spec = tie.close (tie.spec returns returns-2 returns-3 returns-4 returns-5)

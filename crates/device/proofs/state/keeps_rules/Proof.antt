@@ -15,7 +15,8 @@ keeps-current-rule-requires : tie.Need-keeps-current-rule-requires
 keeps-current-rule-requires c κs = search needs
 
 returns-2 : tie.Need-returns-2
-returns-2 c = rw (sym (c .before .before .keeps-client-rev-rule .ensures) ∙ not-false _ (c .before .if1 .left)) (c .keeps-current-rule .ensures)
+returns-2 c = rw (sym (c .before .before .keeps-client-rev-rule .ensures) ∙ not-false _ (c .before .if1 .left))
+    (c .keeps-current-rule .ensures)
 
 pub keeps-rules-spec : {M : Type 1} → statement M
 keeps-rules-spec =

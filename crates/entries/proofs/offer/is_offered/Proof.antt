@@ -27,7 +27,8 @@ is-set-requires c κs = search needs
 
 returns-2 : tie.Need-returns-2
 unfolding isOffered
-returns-2 c = rw (sym (c .before .before .before .before .offers-code .ensures) ∙ not-false _ (c .before .before .before .if1 .left)) (c .is-set .ensures ∙ rw (c .before .before .read-u32 .ensures))
+returns-2 c = rw (sym (c .before .before .before .before .offers-code .ensures) ∙ not-false _ (c .before .before .before .if1 .left))
+    (c .is-set .ensures ∙ rw (c .before .before .read-u32 .ensures))
 
 pub is-offered-spec : {M : Type 1} → statement M
 is-offered-spec =

@@ -29,7 +29,12 @@ returns-4 c = rw (c .before .match .keys4, c .offers-absolute .ensures)
 
 returns-5 : tie.Need-returns-5
 unfolding offersCode
-returns-5 c = rw (ne-eqb _ _ (c .match .rest .0 .0 .0 .1), ne-eqb _ _ (c .match .rest .0 .0 .1), ne-eqb _ _ (c .match .rest .0 .1), ne-eqb _ _ (c .match .rest .1))
+returns-5 c = rw (
+  ne-eqb _ _ (c .match .rest .0 .0 .0 .1),
+  ne-eqb _ _ (c .match .rest .0 .0 .1),
+  ne-eqb _ _ (c .match .rest .0 .1),
+  ne-eqb _ _ (c .match .rest .1),
+)
 
 pub offers-code-spec : {M : Type 1} → statement M
 offers-code-spec =

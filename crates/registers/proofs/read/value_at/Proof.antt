@@ -8,7 +8,8 @@ use Rattle.registers.proofs.read.value_at.Statement.{statement}
 use Rattle.registers.proofs.read.value_at.Tie as tie
 
 -- what is known of a read that goes on
-known : (s : tie.Start) → Granted (s .args .geometry) (s .args .device) (length (s .args .area .now)) (length (s .args .page .now)) (s .args .offset) 4
+known : (s : tie.Start) → Granted (s .args .geometry) (s .args .device) (length (s .args .area .now))
+    (length (s .args .page .now)) (s .args .offset) 4
 known s = granted _ _ _ _ _ _ _ (s .pre)
 
 place-of-requires : tie.Need-place-of-requires
@@ -63,7 +64,9 @@ sub-read-u32 : tie.Need-sub-read-u32
 sub-read-u32 c = area-begins _ _ (sym (c .before .before .place-of .ensures) ∙ c .enum-told11 .given .1)
 
 read-u32-requires-2 : tie.Need-read-u32-requires-2
-read-u32-requires-2 c κs = area-word _ _ _ _ _ _ (known (c .before .before .before .before .before)) (sym (c .before .before .place-of .ensures) ∙ c .enum-told11 .given .1)
+read-u32-requires-2 c κs =
+    area-word _ _ _ _ _ _ (known (c .before .before .before .before .before))
+    (sym (c .before .before .place-of .ensures) ∙ c .enum-told11 .given .1)
 
 enum-told-12 : tie.Need-enum-told-12
 enum-told-12 c = search needs
@@ -75,10 +78,14 @@ add-start : tie.Need-add-start
 add-start c = search needs
 
 sub-read-u32-2 : tie.Need-sub-read-u32-2
-sub-read-u32-2 c = rw (c .area-length .ensures) (page-begins _ _ (sym (c .before .before .before .place-of .ensures) ∙ c .before .enum-told12 .given .1))
+sub-read-u32-2 c = rw (c .area-length .ensures)
+    (page-begins _ _ (sym (c .before .before .before .place-of .ensures) ∙ c .before .enum-told12 .given .1))
 
 read-u32-requires-3 : tie.Need-read-u32-requires-3
-read-u32-requires-3 c κs = rw (c .area-length .ensures) (page-word _ _ _ _ _ _ (known (c .before .before .before .before .before .before)) (sym (c .before .before .before .place-of .ensures) ∙ c .before .enum-told12 .given .1))
+read-u32-requires-3 c κs =
+    rw (c .area-length .ensures)
+    (page-word _ _ _ _ _ _ (known (c .before .before .before .before .before .before))
+    (sym (c .before .before .before .place-of .ensures) ∙ c .before .enum-told12 .given .1))
 
 enum-told-13 : tie.Need-enum-told-13
 enum-told-13 c = search needs
@@ -117,7 +124,12 @@ returns-11 : tie.Need-returns-11
 returns-11 c = rw (sym (c .before .before .before .place-of .ensures) ∙ c .before .enum-told11 .given .1, c .read-u322 .ensures)
 
 returns-12 : tie.Need-returns-12
-returns-12 c = rw (sym (c .before .before .before .before .place-of .ensures) ∙ c .before .before .enum-told12 .given .1, ← c .before .area-length .ensures, c .read-u323 .ensures)
+returns-12 c = rw (
+  sym (c .before .before .before .before .place-of .ensures)
+      ∙ c .before .before .enum-told12 .given .1,
+  ← c .before .area-length .ensures,
+  c .read-u323 .ensures,
+)
 
 returns-13 : tie.Need-returns-13
 returns-13 c = rw (sym (c .before .before .place-of .ensures) ∙ c .enum-told13 .given .1)
