@@ -2,10 +2,10 @@
  * Thayarqo: the XENMOU2 device and its guest's driver; with them come the Xen keyboard ring (thayarqo_ring.h) and its node settings
  * (thayarqo_settings.h).
  *
- * Every call answers one of the numbers of enum thayarqo_answer, for any bytes, any state and any number that it is given. The
- * comment of a call has its refusals in the order in which they are tested: the first that applies is the answer. It also says all
- * that the call changes. Nothing outside the lent memory is read or written. A refusal changes nothing, with three exceptions: a
- * put_packet refused with 10 or 7, a step and a ring_take that answer 9.
+ * Every call but those that make a fresh state answers one of the numbers of enum thayarqo_answer, for any bytes, any state and any
+ * number that it is given. The comment of a call has its refusals in the order in which they are tested: the first that applies is the
+ * answer. It also says all that the call changes. Nothing outside the lent memory is read or written. A refusal changes nothing, with
+ * three exceptions: a put_packet refused with 10 or 7, a step and a ring_take that answer 9.
  *
  * A lent buffer is a pointer and a length in bytes. No pointer is NULL, also where the length is 0. Buffers and states of one call
  * don't overlap. A bool is 0 or 1: any other byte in its place is no bool, and such a state must not be lent.

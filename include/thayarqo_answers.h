@@ -17,7 +17,7 @@ enum thayarqo_answer {
     THAYARQO_MALFORMED = 9,        /* a badly formed packet, entry, event or record */
     THAYARQO_BAD_INDEX = 10,       /* the other end's index is impossible */
     THAYARQO_NOTHING_TO_READ = 11, /* the ring is empty */
-    THAYARQO_BAD_SETTING = 12      /* a bad node text, or settings that lack a node */
+    THAYARQO_BAD_SETTING = 12      /* a bad node text, or settings that lack what a mode needs */
 };
 
 #endif

@@ -58,8 +58,8 @@ struct thayarqo_settings thayarqo_fresh_settings(void);
 
 /*
  * One node. Answers 12 for a bad value of a name that is meant here, and changes nothing then. A flag is "0" or "1"; a number is 1 to
- * 10 digits without sign or leading zero, at most 4294967295. Otherwise it answers 0 and changes the one setting of that name, also
- * where it was given before; a name that isn't meant changes nothing. Texts have no byte 0 at their end.
+ * 10 digits, with no sign and no leading zero but "0" itself, at most 4294967295. Otherwise it answers 0 and changes the one setting of
+ * that name, also where it was given before; a name that isn't meant changes nothing. Texts have no byte 0 at their end.
  */
 uint8_t thayarqo_node(struct thayarqo_settings *settings, const uint8_t *name, size_t name_length,
                       const uint8_t *value, size_t value_length);

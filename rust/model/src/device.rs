@@ -10,7 +10,7 @@ pub struct Device {
     pub on: bool,
     pub interrupts: bool,
     pub isr: bool,
-    /// A packet was refused with 10 or 7 since the last one accepted.
+    /// A packet was refused with 10 or 7 since the last one accepted, or since the switch-on.
     pub lost: bool,
     pub client_rev_written: bool,
     pub client_rev: u32,

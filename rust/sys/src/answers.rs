@@ -22,5 +22,5 @@ pub const MALFORMED: u8 = 9;
 /// The other end's index is impossible.
 pub const BAD_INDEX: u8 = 10;
 pub const NOTHING_TO_READ: u8 = 11;
-/// A bad node text, or settings that lack a node.
+/// A bad node text, or settings that lack what a mode needs.
 pub const BAD_SETTING: u8 = 12;

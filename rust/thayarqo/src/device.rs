@@ -58,7 +58,7 @@ impl Device {
     }
 
     /// Puts a packet whole, or not at all. [`Refusal::NoRoom`] and [`Refusal::BadIndex`] set the lost mark: the guest is told of a
-    /// gap before the next packet that is put.
+    /// gap before the next packet that is put, unless the device is switched off first.
     pub fn put_packet(&mut self, packet: &Packet) -> Answer<()> {
         let mut buffer = [0; sys::PACKET_LENGTH];
         self.put_packet_bytes(packet.source().number(), packet.bytes(&mut buffer))
@@ -145,7 +145,7 @@ impl Device {
         self.state.isr
     }
 
-    /// Whether a packet was lost since the last one that was put.
+    /// Whether a packet was lost since the last one that was put, or since the switch-on.
     pub fn has_lost(&self) -> bool {
         self.state.lost
     }

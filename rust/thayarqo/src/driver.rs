@@ -12,7 +12,7 @@ use thayarqo_sys::{self as sys, safe};
     reason = "a box for every packet would cost more than its copy"
 )]
 pub enum Told {
-    /// Part of a packet that isn't whole yet, or an event that is ignored.
+    /// Part of a packet that isn't whole yet, an event that is ignored, or SYN_DROPPED, after which events are ignored.
     Nothing,
     /// Packets have been lost here.
     Gap,

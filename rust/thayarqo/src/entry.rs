@@ -43,7 +43,7 @@ impl Entry {
         entry.offer(EV_SYN)
     }
 
-    /// With movements, of any code.
+    /// With movements, of every code below 32: an entry doesn't choose among them.
     #[must_use]
     pub fn offer_rel(self) -> Entry {
         self.offer(EV_REL)

@@ -37,7 +37,7 @@ pub enum Refusal {
     BadIndex = sys::BAD_INDEX,
     /// 11: nothing to read.
     NothingToRead = sys::NOTHING_TO_READ,
-    /// 12: a bad node text, or settings that lack a node.
+    /// 12: a bad node text, or settings that lack what a mode needs.
     BadSetting = sys::BAD_SETTING,
 }
 
