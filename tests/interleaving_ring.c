@@ -1,6 +1,7 @@
 /*
  * Both ends of the keyboard ring at the same time. A put stores an event before in_prod, and a take has loaded it before it stores
- * in_cons: else other events come out than were put.
+ * in_cons: else other events come out than were put. And a back end that writes over an event while it is taken can't make a take
+ * tell a contact at or above the limit: the one that it tells is the one that it tested.
  */
 #define _DEFAULT_SOURCE
 #include "interleaving.h"
@@ -29,6 +30,7 @@ struct world {
     uint32_t received;
     uint32_t met_full;
     uint32_t met_empty;
+    uint32_t malformed;
     bool wrong;
 };
 
@@ -84,7 +86,51 @@ static void take_all(void *memory)
         take(world);
 }
 
+/* ---- a back end that writes over the event which is taken ---- */
+
+/* A touch with its contact below the limit, with one above it, and a key, by turns that keep no step with the other end's. */
+static void scribble(void *memory)
+{
+    static uint32_t turns;
+    struct world *world = (struct world *)memory;
+    uint8_t *place = world->page.events[world->in_cons % RING];
+    turns = turns * 1664525 + 1013904223;
+    memcpy(place, world->bytes[turns >> 30 == 0 ? KEY : TOUCH], EVENT);
+    if (turns >> 31)
+        place[2] = 0xFF;
+}
+
+static void receive_any(struct world *world, struct thayarqo_ring_found found)
+{
+    world->wrong |= found.answer != THAYARQO_DONE && found.answer != THAYARQO_MALFORMED;
+    world->wrong |= found.event.contact >= LIMIT;
+    world->malformed += found.answer == THAYARQO_MALFORMED;
+    world->received++;
+}
+
+static void take_any(void *memory)
+{
+    struct world *world = (struct world *)memory;
+    while (world->received < RING && !world->wrong)
+        receive_any(world, thayarqo_ring_take((uint8_t *)&world->page, sizeof world->page, &world->in_cons, LIMIT));
+}
+
 /* ---- wrong ends, which must be noticed ---- */
+
+/* Tests the event, and then loads its contact once more. */
+static void take_twice(void *memory)
+{
+    struct world *world = (struct world *)memory;
+    while (world->received < RING && !world->wrong) {
+        const uint8_t *place = world->page.events[world->in_cons % RING];
+        struct thayarqo_ring_found found = thayarqo_ring_decode(place, EVENT, LIMIT);
+        atomic_signal_fence(memory_order_seq_cst);
+        if (found.answer == THAYARQO_DONE)
+            found.event.contact = place[2];
+        receive_any(world, found);
+        world->in_cons++;
+    }
+}
 
 static void put_all_early(void *memory)
 {
@@ -147,6 +193,15 @@ static const struct {
     {"a take that stores in_cons first is noticed", take_all_late, spoil_and_put, ALWAYS, RING, false},
 };
 
+/* Some events are told, and some are malformed. */
+static void meet_scribble(const char *name, void (*work)(void *), bool right)
+{
+    struct world *world = make_world(RING);
+    bool ended = interleave(work, scribble, ALWAYS, world);
+    check(name, (ended && !world->wrong && world->malformed > 0 && world->malformed < world->received) == right);
+    munmap(world, sizeof *world);
+}
+
 int main(void)
 {
     if (!can_interleave()) {
@@ -159,5 +214,7 @@ int main(void)
         check(meetings[i].name, is_right(world, ended) == meetings[i].right);
         munmap(world, sizeof *world);
     }
+    meet_scribble("takes, while each event is written over after every instruction", take_any, true);
+    meet_scribble("a take that loads the contact once more is noticed", take_twice, false);
     return broken;
 }
