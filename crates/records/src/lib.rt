@@ -15,6 +15,11 @@ ghost use Rattle.records.specs.Unread.{recordAt};
 // A packet has so many events at most.
 pub const MOST_EVENTS: u32 = 32;
 
+// Where the pointers stand in the event area.
+const READ_PTR: usize = 0;
+
+const WRITE_PTR: usize = 4;
+
 #[repr(C)]
 pub struct Event {
     pub kind: u16,
@@ -47,28 +52,28 @@ pub fn read_pointer(area: &[u8]) -> u32
     requires { ⌜ 8 ≤ length (now area) ⌝ }
     ensures { λ r. ⌜ r ≡ readPointer (now (area .entry)) ⌝ }
 {
-    words::read_u32(area, 0)
+    words::read_u32(area, READ_PTR)
 }
 
 pub fn write_pointer(area: &[u8]) -> u32
     requires { ⌜ 8 ≤ length (now area) ⌝ }
     ensures { λ r. ⌜ r ≡ writePointer (now (area .entry)) ⌝ }
 {
-    words::read_u32(area, 4)
+    words::read_u32(area, WRITE_PTR)
 }
 
 pub fn set_read_pointer(area: &mut [u8], index: u32)
     requires { ⌜ 8 ≤ length (now area) ⌝ }
     ensures { λ _. ⌜ now (area .exit) ≡ withReadPointer (now (area .entry)) index ⌝ }
 {
-    words::write_u32(area, 0, index);
+    words::write_u32(area, READ_PTR, index);
 }
 
 pub fn set_write_pointer(area: &mut [u8], index: u32)
     requires { ⌜ 8 ≤ length (now area) ⌝ }
     ensures { λ _. ⌜ now (area .exit) ≡ withWritePointer (now (area .entry)) index ⌝ }
 {
-    words::write_u32(area, 4, index);
+    words::write_u32(area, WRITE_PTR, index);
 }
 
 // By a compare, since a division costs more than the rest of a put.
