@@ -4,6 +4,7 @@
  */
 #include "contestant.h"
 #include "encode.h"
+#include "revision1.h"
 #include "words.h"
 
 #include "thayarqo_codes.h"
@@ -35,19 +36,76 @@ static void put_record(struct thayarqo_geometry geometry, uint8_t *area, uint64_
     store_u32(area + 4, next);
 }
 
-uint8_t bare_put_packet(struct thayarqo_device *device, struct thayarqo_geometry geometry, uint8_t *area, size_t area_length,
-                        const uint8_t *page, size_t page_length, uint32_t slot, const void *packet, size_t packet_length)
+static void put_revision2(struct thayarqo_device *device, struct thayarqo_geometry geometry, uint8_t *area,
+                          uint32_t slot, const uint8_t *packet, size_t packet_length)
 {
-    (void)area_length, (void)page, (void)page_length;
     if (device->current_slot != slot)
         put_record(geometry, area, EV_DEV | DEV_SET << 16 | (uint64_t)slot << 32);
     device->current_slot = slot;
     for (size_t at = 0; at < packet_length; at += 8) {
         uint64_t record;
-        memcpy(&record, (const uint8_t *)packet + at, sizeof record);
+        memcpy(&record, packet + at, sizeof record);
         put_record(geometry, area, record);
     }
     put_record(geometry, area, EV_SYN);
+}
+
+/* What a packet has for revision 1. A position goes to the device at once. */
+struct gesture {
+    bool moved, placed, turned;
+    uint32_t motion, wheel, clicks;
+    uint16_t buttons[THAYARQO_PACKET_LENGTH / 8];
+};
+
+static void gather(struct gesture *gesture, struct thayarqo_device *device, const uint8_t *event)
+{
+    uint32_t type = load_u16(event), code = load_u16(event + 2), value = load_u32(event + 4);
+    if (type == EV_KEY) {
+        gesture->buttons[gesture->clicks++] = button_flag(code, value);
+    } else if (type == EV_ABS) {
+        gesture->placed = true;
+        *(code == ABS_X ? &device->position.x : &device->position.y) = (uint16_t)value;
+    } else if (code == REL_WHEEL) {
+        gesture->turned = true;
+        gesture->wheel = value;
+    } else {
+        gesture->moved = true;
+        gesture->motion |= (uint32_t)(uint16_t)((int32_t)value * device->acceleration / 10) << 16 * code;
+    }
+}
+
+static void put_flagged(struct thayarqo_geometry geometry, uint8_t *area, uint32_t flags, uint32_t data)
+{
+    put_record(geometry, area, flags | 1u << 16 | (uint64_t)data << 32);
+}
+
+static void put_revision1(struct thayarqo_device *device, struct thayarqo_geometry geometry, uint8_t *area,
+                          const uint8_t *packet, size_t packet_length)
+{
+    struct gesture gesture;
+    gesture.moved = gesture.placed = gesture.turned = false;
+    gesture.motion = gesture.wheel = gesture.clicks = 0;
+    for (size_t at = 0; at < packet_length; at += 8)
+        gather(&gesture, device, packet + at);
+    if (gesture.moved)
+        put_flagged(geometry, area, THAYARQO_FLAG_RELATIVE, gesture.motion);
+    if (gesture.placed)
+        put_flagged(geometry, area, THAYARQO_FLAG_ABSOLUTE, device->position.x | (uint32_t)device->position.y << 16);
+    for (uint32_t i = 0; i < gesture.clicks; i++)
+        put_flagged(geometry, area, gesture.buttons[i], 0);
+    if (gesture.turned)
+        put_flagged(geometry, area, THAYARQO_FLAG_VWHEEL, gesture.wheel);
+    put_flagged(geometry, area, THAYARQO_FLAG_FENCE, 0);
+}
+
+uint8_t bare_put_packet(struct thayarqo_device *device, struct thayarqo_geometry geometry, uint8_t *area, size_t area_length,
+                        const uint8_t *page, size_t page_length, uint32_t slot, const void *packet, size_t packet_length)
+{
+    (void)area_length, (void)page, (void)page_length;
+    if (device->client_rev == 2)
+        put_revision2(device, geometry, area, slot, packet, packet_length);
+    else
+        put_revision1(device, geometry, area, packet, packet_length);
     device->write_index = load_u32(area + 4);
     device->isr |= device->interrupts;
     return THAYARQO_DONE;
@@ -61,11 +119,11 @@ struct thayarqo_value bare_read(const struct thayarqo_device *device, struct tha
     uint32_t value = 0;
     switch (offset) {
     case 0x000: value = 0x584D4F55; break;
-    case 0x004: value = device->client_rev_written ? 2 : 1; break;
+    case 0x004: value = is_revision1(device) ? 1 : 2; break;
     case 0x100: value = device->on | (uint32_t)device->interrupts << 1; break;
     case 0x104: value = geometry.record_size; break;
     case 0x108: value = geometry.pages; break;
-    case 0x10C: break;
+    case 0x10C: value = is_revision1(device) ? device->acceleration : 0; break;
     case 0x110: value = device->isr; break;
     case 0x114: value = geometry.entry_size; break;
     case 0x118: value = device->client_rev; break;
@@ -107,6 +165,18 @@ struct thayarqo_told bare_step(struct thayarqo_driver *driver, struct thayarqo_g
     }
     memcpy((uint8_t *)packet + 8 * driver->held++, record, 8);
     return (struct thayarqo_told){THAYARQO_DONE, THAYARQO_TOLD_NOTHING, 0, 0};
+}
+
+struct thayarqo_taken bare_revision1_step(struct thayarqo_geometry geometry, uint8_t *area, size_t area_length)
+{
+    (void)area_length;
+    uint32_t read = load_u32(area);
+    if (read == load_u32(area + 4))
+        return (struct thayarqo_taken){THAYARQO_NOTHING_TO_READ, 0, 0, 0};
+    const uint8_t *record = record_at(geometry, area, read);
+    struct thayarqo_taken taken = {THAYARQO_DONE, load_u16(record), load_u16(record + 2), load_u32(record + 4)};
+    store_u32(area, next_index(geometry, read));
+    return taken;
 }
 
 struct thayarqo_copied bare_copy_out(struct thayarqo_geometry geometry, uint8_t *area, size_t area_length,

@@ -41,7 +41,7 @@ static void print_machine(void)
 static void line_up(struct competitor *competitors, work *work, struct thayarqo_geometry geometry, uint32_t slots)
 {
     for (int i = 0; i < CONTESTANTS; i++) {
-        start(&worlds[i], geometry, slots);
+        start(&worlds[i], geometry, slots, client_rev);
         competitors[i] = (struct competitor){contestants[i].name, &contestants[i], work, &worlds[i], {0, 0, 0}};
     }
 }
@@ -84,6 +84,10 @@ static void measure_calls(void)
 {
     print_heading("work");
     measure_row("three-event packet put, read by steps until nothing is left", packet_and_steps, usual, 60, ROUNDS);
+    client_rev = 0;
+    measure_row("revision 1 packet of three events put, read by steps until nothing is left", revision1_packet_and_steps, usual, 60,
+                ROUNDS);
+    client_rev = 2;
     measure_row("keyboard ring event put and taken, nine kinds in turn", ring_put_and_take, usual, 60, ROUNDS);
     measure_row("keyboard ring motion encoded and put", ring_encode_and_put, usual, 60, ROUNDS);
     register_offset = 0x104;
@@ -101,7 +105,7 @@ static void measure_copies(uint32_t record_size)
     int count = record_size == 8 ? 5 : 4;
     line_up(competitors, full_copy_out, geometry, 10);
     for (int i = CONTESTANTS; i < count; i++) {
-        start(&worlds[i], geometry, 10);
+        start(&worlds[i], geometry, 10, client_rev);
         competitors[i] = (struct competitor){"memcpy", &contestants[0], i == 3 ? full_memcpy_each : full_memcpy_all, &worlds[i], {0, 0, 0}};
     }
     measure(competitors, count, ROUNDS, 20, ring_length(&worlds[0]) - 1);

@@ -24,12 +24,30 @@ void fill_ring_event(uint8_t *bytes, uint32_t kind, uint32_t number)
     thayarqo_ring_encode(bytes, THAYARQO_RING_EVENT_LENGTH, ring_event(kind, number));
 }
 
-static void draw_event(uint64_t *seed, uint8_t *event)
+static void draw_events(uint64_t *seed, uint8_t *events, size_t length)
 {
     static const uint32_t codes[] = {1, 0x60, 32, 64};
     static const uint16_t first[] = {SYN_MT_REPORT, BTN_0, 0, 0};
-    uint16_t type = (uint16_t)below(seed, 4);
-    store_event(event, type, (uint16_t)(first[type] + below(seed, codes[type])), any(seed));
+    for (size_t at = 0; at < length; at += 8) {
+        uint16_t type = (uint16_t)below(seed, 4);
+        store_event(events + at, type, (uint16_t)(first[type] + below(seed, codes[type])), any(seed));
+    }
+}
+
+/* An axis or the wheel comes once, and stays in range at any acceleration. All else are buttons. */
+static void draw_events_of_revision1(uint64_t *seed, uint8_t *events, size_t length)
+{
+    static const uint16_t types[] = {EV_REL, EV_REL, EV_REL, EV_ABS, EV_ABS}, codes[] = {REL_X, REL_Y, REL_WHEEL, ABS_X, ABS_Y};
+    uint32_t given = 0;
+    for (size_t at = 0; at < length; at += 8) {
+        uint32_t which = below(seed, 8);
+        if (which >= 5 || (given >> which & 1) != 0) {
+            store_event(events + at, EV_KEY, (uint16_t)(BTN_LEFT + below(seed, 3)), below(seed, 2) * any(seed));
+            continue;
+        }
+        given |= 1u << which;
+        store_event(events + at, types[which], codes[which], types[which] == EV_REL ? below(seed, 32768) - 16384 : below(seed, 65536));
+    }
 }
 
 static uint64_t draw_offset(uint64_t *seed, const struct world *world)
@@ -53,8 +71,10 @@ struct call draw_call(uint64_t *seed, const struct world *world)
     call.width = 4;
     call.contact_limit = CONTACTS;
     call.offset = draw_offset(seed, world);
-    for (size_t at = 0; at < sizeof call.events; at += 8)
-        draw_event(seed, call.events + at);
+    if (world->device.client_rev == 2)
+        draw_events(seed, call.events, sizeof call.events);
+    else
+        draw_events_of_revision1(seed, call.events, sizeof call.events);
     call.numbers = ring_event(below(seed, RING_KINDS), any(seed));
     fill_ring_event(call.event, below(seed, RING_KINDS), any(seed));
     return call;
@@ -94,6 +114,10 @@ struct reply make_call(const struct contestant *contestant, struct world *world,
         struct thayarqo_told told = contestant->step(&world->driver, world->geometry, world->area, call->area_length,
                                                      world->packet, call->held_length);
         return (struct reply){{told.answer, told.what, told.slot, told.count}};
+    }
+    if (call->kind == REVISION1_STEP) {
+        struct thayarqo_taken taken = contestant->revision1_step(world->geometry, world->area, call->area_length);
+        return (struct reply){{taken.answer, taken.flags, taken.revision, taken.data}};
     }
     if (call->kind == COPY_OUT) {
         struct thayarqo_copied copied = contestant->copy_out(world->geometry, world->area, call->area_length, call->limit,

@@ -4,7 +4,7 @@
 
 #include "world.h"
 
-enum call_kind { PUT_PACKET, STEP, COPY_OUT, READ, RING_ENCODE, RING_PUT, RING_TAKE, CALL_KINDS };
+enum call_kind { PUT_PACKET, STEP, COPY_OUT, REVISION1_STEP, READ, RING_ENCODE, RING_PUT, RING_TAKE, CALL_KINDS };
 
 struct call {
     enum call_kind kind;
@@ -21,7 +21,7 @@ struct reply {
     int64_t numbers[12];
 };
 
-/* A call that a well-behaved caller would make. */
+/* A call that a well-behaved caller would make, by the revision of the world's guest. */
 struct call draw_call(uint64_t *seed, const struct world *world);
 
 /* Spoils one thing of the call or of the world. */

@@ -1,10 +1,6 @@
 /* The device's packets and register reads in plain C, with every test of the rules. */
-#include "checked.h"
-
-#include "thayarqo_codes.h"
-
-/* Where an entry's masks begin. */
-enum { EVBITS = 40, ABSBITS = 44, BTNBITS = 56 };
+#include "checked_device.h"
+#include "revision1.h"
 
 static bool is_taken(const struct thayarqo_device *device, uint32_t slot)
 {
@@ -17,11 +13,18 @@ static bool slots_in_range(const struct thayarqo_device *device, struct thayarqo
     return device->taken == 0 || is_slot(geometry, 63 - (uint32_t)__builtin_clzll(device->taken));
 }
 
+static bool is_client_rev(const struct thayarqo_device *device)
+{
+    if (device->client_rev == 0)
+        return !device->on || !device->client_rev_written;
+    return device->client_rev <= 2 && device->client_rev_written;
+}
+
 static bool is_device(const struct thayarqo_device *device, struct thayarqo_geometry geometry)
 {
     if (device->write_index >= ring_length(geometry))
         return false;
-    if (device->client_rev == 0 ? device->on : device->client_rev != 2 || !device->client_rev_written)
+    if (!is_client_rev(device) || device->acceleration < 1 || device->acceleration > 20)
         return false;
     if (!slots_in_range(device, geometry))
         return false;
@@ -31,11 +34,6 @@ static bool is_device(const struct thayarqo_device *device, struct thayarqo_geom
 static bool is_call(const struct thayarqo_device *device, struct thayarqo_geometry geometry, size_t area_length, size_t page_length)
 {
     return is_sized(geometry, area_length) && page_length == 4096 && is_device(device, geometry);
-}
-
-static bool mask_bit(const uint8_t *mask, uint32_t index)
-{
-    return (load_u32(mask + index / 32 * 4) >> index % 32 & 1) != 0;
 }
 
 static bool is_offered(const uint8_t *entry, uint32_t type, uint32_t code)
@@ -62,22 +60,6 @@ static bool offers_all(const uint8_t *entry, const uint8_t *events, uint32_t cou
     return true;
 }
 
-static uint8_t room_refusal(const uint8_t *area, uint32_t length, uint32_t write, uint32_t count)
-{
-    uint32_t read = load_u32(area);
-    if (read >= length)
-        return THAYARQO_BAD_INDEX;
-    return unread_count(length, read, write) + count <= length - 1 ? THAYARQO_DONE : THAYARQO_NO_ROOM;
-}
-
-static void put_record(struct thayarqo_device *device, struct thayarqo_geometry geometry, uint8_t *area,
-                       uint16_t type, uint16_t code, uint32_t value)
-{
-    store_event(record_at(geometry, area, device->write_index), type, code, value);
-    device->write_index = next_index(ring_length(geometry), device->write_index);
-    store_u32(area + 4, device->write_index);
-}
-
 static void put_records(struct thayarqo_device *device, struct thayarqo_geometry geometry, uint8_t *area,
                         uint32_t slot, const uint8_t *events, uint32_t count)
 {
@@ -94,6 +76,24 @@ static void put_records(struct thayarqo_device *device, struct thayarqo_geometry
     put_record(device, geometry, area, EV_SYN, SYN_REPORT, 0);
 }
 
+static uint8_t put_revision2(struct thayarqo_device *device, struct thayarqo_geometry geometry, uint8_t *area,
+                             const uint8_t *entry, uint32_t slot, const uint8_t *events, uint32_t count)
+{
+    if (!offers_all(entry, events, count))
+        return THAYARQO_NOT_OFFERED;
+    uint32_t needed = (device->lost ? 2 : 0) + (device->current_slot != slot) + count + 1;
+    uint8_t refusal = room_refusal(area, ring_length(geometry), device->write_index, needed);
+    if (refusal != THAYARQO_DONE) {
+        device->lost = true;
+        return refusal;
+    }
+    put_records(device, geometry, area, slot, events, count);
+    device->lost = false;
+    device->current_slot = slot;
+    device->isr |= device->interrupts;
+    return THAYARQO_DONE;
+}
+
 uint8_t checked_put_packet(struct thayarqo_device *device, struct thayarqo_geometry geometry, uint8_t *area, size_t area_length,
                            const uint8_t *page, size_t page_length, uint32_t slot, const void *packet, size_t packet_length)
 {
@@ -106,19 +106,10 @@ uint8_t checked_put_packet(struct thayarqo_device *device, struct thayarqo_geome
     if (packet_length < 8 || packet_length > THAYARQO_PACKET_LENGTH)
         return THAYARQO_MALFORMED;
     uint32_t count = (uint32_t)packet_length / 8;
-    if (!offers_all(page + geometry.entry_size * slot, packet, count))
-        return THAYARQO_NOT_OFFERED;
-    uint32_t needed = (device->lost ? 2 : 0) + (device->current_slot != slot) + count + 1;
-    uint8_t refusal = room_refusal(area, ring_length(geometry), device->write_index, needed);
-    if (refusal != THAYARQO_DONE) {
-        device->lost = true;
-        return refusal;
-    }
-    put_records(device, geometry, area, slot, packet, count);
-    device->lost = false;
-    device->current_slot = slot;
-    device->isr |= device->interrupts;
-    return THAYARQO_DONE;
+    const uint8_t *entry = page + geometry.entry_size * slot;
+    if (device->client_rev == 2)
+        return put_revision2(device, geometry, area, entry, slot, packet, count);
+    return checked_put_revision1(device, geometry, area, entry, packet, count);
 }
 
 /* The registers below the event area. Answers 4 where there is none. */
@@ -127,11 +118,11 @@ static struct thayarqo_value read_register(const struct thayarqo_device *device,
     struct thayarqo_value found = {THAYARQO_DONE, 0};
     switch (offset) {
     case 0x000: found.value = 0x584D4F55; break;
-    case 0x004: found.value = device->client_rev_written ? 2 : 1; break;
+    case 0x004: found.value = is_revision1(device) ? 1 : 2; break;
     case 0x100: found.value = device->on | (uint32_t)device->interrupts << 1; break;
     case 0x104: found.value = geometry.record_size; break;
     case 0x108: found.value = geometry.pages; break;
-    case 0x10C: break;
+    case 0x10C: found.value = is_revision1(device) ? device->acceleration : 0; break;
     case 0x110: found.value = device->isr; break;
     case 0x114: found.value = geometry.entry_size; break;
     case 0x118: found.value = device->client_rev; break;

@@ -1,4 +1,4 @@
-/* The guest's driver in plain C, with every test of the rules. */
+/* The guest's driver and the reader of revision 1 in plain C, with every test of the rules. */
 #include "checked.h"
 
 #include "thayarqo_codes.h"
@@ -131,6 +131,21 @@ struct thayarqo_told checked_step(struct thayarqo_driver *driver, struct thayarq
         return tell(refusal, THAYARQO_TOLD_NOTHING, 0);
     store_u32(area, next_index(length, read));
     return receive(driver, geometry, record_at(geometry, area, read), packet);
+}
+
+struct thayarqo_taken checked_revision1_step(struct thayarqo_geometry geometry, uint8_t *area, size_t area_length)
+{
+    if (!is_sized(geometry, area_length))
+        return (struct thayarqo_taken){THAYARQO_INVALID, 0, 0, 0};
+    uint32_t length = ring_length(geometry);
+    uint32_t read = load_u32(area);
+    uint8_t refusal = reading_refusal(length, read, load_u32(area + 4));
+    if (refusal != THAYARQO_DONE)
+        return (struct thayarqo_taken){refusal, 0, 0, 0};
+    const uint8_t *record = record_at(geometry, area, read);
+    struct thayarqo_taken taken = {THAYARQO_DONE, load_u16(record), load_u16(record + 2), load_u32(record + 4)};
+    store_u32(area, next_index(length, read));
+    return taken;
 }
 
 struct thayarqo_copied checked_copy_out(struct thayarqo_geometry geometry, uint8_t *area, size_t area_length,

@@ -10,6 +10,7 @@ struct contestant {
     __typeof__(thayarqo_put_packet) *put_packet;
     __typeof__(thayarqo_step) *step;
     __typeof__(thayarqo_copy_out) *copy_out;
+    __typeof__(thayarqo_revision1_step) *revision1_step;
     __typeof__(thayarqo_ring_encode) *ring_encode;
     __typeof__(thayarqo_ring_put) *ring_put;
     __typeof__(thayarqo_ring_take) *ring_take;
@@ -24,6 +25,7 @@ __typeof__(thayarqo_read) checked_read, bare_read;
 __typeof__(thayarqo_put_packet) checked_put_packet, bare_put_packet;
 __typeof__(thayarqo_step) checked_step, bare_step;
 __typeof__(thayarqo_copy_out) checked_copy_out, bare_copy_out;
+__typeof__(thayarqo_revision1_step) checked_revision1_step, bare_revision1_step;
 __typeof__(thayarqo_ring_encode) checked_ring_encode, bare_ring_encode;
 __typeof__(thayarqo_ring_put) checked_ring_put, bare_ring_put;
 __typeof__(thayarqo_ring_take) checked_ring_take, bare_ring_take;

@@ -4,7 +4,7 @@
 #include "thayarqo_codes.h"
 #include "words.h"
 
-uint32_t packet_slot, packet_events = 3;
+uint32_t client_rev = 2, packet_slot, packet_events = 3;
 uint64_t register_offset;
 uint32_t ring_kind = RING_KINDS;
 
@@ -12,7 +12,7 @@ static uint8_t events[PACKET];
 static uint8_t ring_events[RING_KINDS][THAYARQO_RING_EVENT_LENGTH];
 static struct thayarqo_ring_event motion;
 
-/* What a mouse says: how far it moved, a button, an axis. */
+/* What a mouse says: how far it moved, a button, an axis. The first four have a form in revision 1 too. */
 void prepare_work(void)
 {
     for (uint32_t i = 0; i < PACKET / 8; i += 4) {
@@ -38,6 +38,22 @@ uint64_t packet_and_steps(const struct contestant *contestant, struct world *wor
             told = contestant->step(&world->driver, world->geometry, world->area, length, world->packet, PACKET);
             sum += told.answer + 16 * told.what + 256 * told.count;
         } while (told.answer == THAYARQO_DONE);
+    }
+    return sum;
+}
+
+uint64_t revision1_packet_and_steps(const struct contestant *contestant, struct world *world, uint32_t times)
+{
+    uint64_t sum = 0;
+    size_t length = area_length(world);
+    for (uint32_t i = 0; i < times; i++) {
+        sum += contestant->put_packet(&world->device, world->geometry, world->area, length, world->page, PAGE, packet_slot,
+                                      events, 8 * packet_events);
+        struct thayarqo_taken taken;
+        do {
+            taken = contestant->revision1_step(world->geometry, world->area, length);
+            sum += taken.answer + 16u * taken.flags + taken.revision + 256 * (uint64_t)taken.data;
+        } while (taken.answer == THAYARQO_DONE);
     }
     return sum;
 }

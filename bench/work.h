@@ -4,8 +4,8 @@
 
 #include "measure.h"
 
-/* The packet that is put, and the register that is read. Set before a measurement. */
-extern uint32_t packet_slot, packet_events;
+/* What the guest wrote to CLIENT_REV, the packet that is put, and the register that is read. Set before a measurement. */
+extern uint32_t client_rev, packet_slot, packet_events;
 extern uint64_t register_offset;
 
 /* Which kind of ring event is put and taken, or RING_KINDS for each in turn. */
@@ -14,7 +14,7 @@ extern uint32_t ring_kind;
 void prepare_work(void);
 
 /* A packet put, and read by steps until nothing is left. */
-work packet_and_steps;
+work packet_and_steps, revision1_packet_and_steps;
 
 /* A full ring emptied by one copy-out. */
 work full_copy_out, full_memcpy_each, full_memcpy_all;

@@ -38,7 +38,7 @@ static void write_register(struct world *world, uint64_t offset, uint32_t value)
                                              offset, 4, value));
 }
 
-void start(struct world *world, struct thayarqo_geometry geometry, uint32_t slots)
+void start(struct world *world, struct thayarqo_geometry geometry, uint32_t slots, uint32_t client_rev)
 {
     memset(world, 0, sizeof *world);
     world->geometry = geometry;
@@ -46,7 +46,8 @@ void start(struct world *world, struct thayarqo_geometry geometry, uint32_t slot
     world->driver = thayarqo_fresh_driver();
     for (uint32_t slot = 0; slot < slots; slot++)
         add(world, slot);
-    write_register(world, 0x118, 2);
+    if (client_rev != 0)
+        write_register(world, 0x118, client_rev);
     write_register(world, 0x100, 3);
     while (thayarqo_step(&world->driver, geometry, world->area, area_length(world), world->packet, PACKET).answer == THAYARQO_DONE)
         ;
@@ -56,8 +57,9 @@ static bool same_device(const struct thayarqo_device *left, const struct thayarq
 {
     return left->on == right->on && left->interrupts == right->interrupts && left->isr == right->isr
         && left->lost == right->lost && left->client_rev_written == right->client_rev_written
-        && left->client_rev == right->client_rev && left->write_index == right->write_index
-        && left->current_slot == right->current_slot && left->taken == right->taken;
+        && left->client_rev == right->client_rev && left->acceleration == right->acceleration
+        && left->write_index == right->write_index && left->current_slot == right->current_slot
+        && left->position.x == right->position.x && left->position.y == right->position.y && left->taken == right->taken;
 }
 
 static bool same_driver(const struct thayarqo_driver *left, const struct thayarqo_driver *right)

@@ -18,8 +18,11 @@ struct world {
     uint32_t in_prod, in_cons;
 };
 
-/* A device that is on, with so many mice of every button and axis from slot 0 on, whose first records have been read. */
-void start(struct world *world, struct thayarqo_geometry geometry, uint32_t slots);
+/*
+ * A device that is on, with so many mice of every button and axis from slot 0 on, whose first records have been read. The guest has
+ * written CLIENT_REV, but for 0.
+ */
+void start(struct world *world, struct thayarqo_geometry geometry, uint32_t slots, uint32_t client_rev);
 
 size_t area_length(const struct world *world);
 uint32_t ring_length(const struct world *world);

@@ -13,7 +13,7 @@ enum thayarqo_answer {
     THAYARQO_DEVICE_OFF = 5,       /* a packet while the device is off */
     THAYARQO_BAD_SLOT = 6,         /* out of range; taken, at an add; absent, at a remove, a packet, a lookup */
     THAYARQO_NO_ROOM = 7,          /* too little room */
-    THAYARQO_NOT_OFFERED = 8,      /* an event that the slot doesn't offer */
+    THAYARQO_NOT_OFFERED = 8,      /* an event that the slot doesn't offer, or that has no form in revision 1 */
     THAYARQO_MALFORMED = 9,        /* a badly formed packet, entry, event or record */
     THAYARQO_BAD_INDEX = 10,       /* the other end's index is impossible */
     THAYARQO_NOTHING_TO_READ = 11, /* the ring is empty */

@@ -20,14 +20,20 @@ THAYARQO_AT(geometry, record_size, 4);
 THAYARQO_AT(geometry, entry_size, 8);
 THAYARQO_SIZE(geometry, 12);
 
+THAYARQO_AT(position, x, 0);
+THAYARQO_AT(position, y, 2);
+THAYARQO_SIZE(position, 4);
+
 THAYARQO_AT(device, on, 0);
 THAYARQO_AT(device, interrupts, 1);
 THAYARQO_AT(device, isr, 2);
 THAYARQO_AT(device, client_rev_written, 3);
 THAYARQO_AT(device, client_rev, 4);
-THAYARQO_AT(device, lost, 8);
-THAYARQO_AT(device, write_index, 12);
-THAYARQO_AT(device, current_slot, 16);
+THAYARQO_AT(device, acceleration, 6);
+THAYARQO_AT(device, write_index, 8);
+THAYARQO_AT(device, current_slot, 12);
+THAYARQO_AT(device, position, 16);
+THAYARQO_AT(device, lost, 20);
 THAYARQO_AT(device, taken, 24);
 THAYARQO_SIZE(device, 32);
 
@@ -56,6 +62,12 @@ THAYARQO_SIZE(told, 12);
 THAYARQO_AT(copied, answer, 0);
 THAYARQO_AT(copied, count, 4);
 THAYARQO_SIZE(copied, 8);
+
+THAYARQO_AT(taken, answer, 0);
+THAYARQO_AT(taken, flags, 2);
+THAYARQO_AT(taken, revision, 4);
+THAYARQO_AT(taken, data, 8);
+THAYARQO_SIZE(taken, 12);
 
 THAYARQO_AT(ring_event, kind, 0);
 THAYARQO_AT(ring_event, subtype, 1);

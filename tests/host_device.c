@@ -1,21 +1,11 @@
 /*
- * The host's calls through the C library: registers and pages, switch-on and -off, adds and removes. After each call every byte and
- * every field is compared with what it has to be.
+ * The host's calls through the C library: registers and pages, switch-on and -off, adds and removes; host_revision1.c has those of
+ * revision 1. After each call every byte and every field is compared with what it has to be.
  */
 #include "host_world.h"
 
-enum { CONTROL = 0x100, ISR = 0x110, CLIENT_REV = 0x118, FIRST_RECORD = 0x1000 + RECORD, ENTRY_PAGE = 0x1000 + AREA };
-enum { NO_REGISTER = 0x200, BAR = ENTRY_PAGE + PAGE };
+enum { NO_REGISTER = 0x200, FIRST_RECORD = 0x1000 + RECORD, ENTRY_PAGE = 0x1000 + AREA, BAR = ENTRY_PAGE + PAGE };
 enum { MOUSE = 1 << EV_SYN | 1 << EV_KEY | 1 << EV_REL, BUTTONS = 0x30000 };
-
-static void reads(const char *name, uint8_t answer, uint32_t value, uint64_t offset, uint32_t width)
-{
-    struct thayarqo_value read = thayarqo_read(device, geometry, area.bytes, AREA, page.bytes, PAGE, offset, width);
-    if (read.value != value)
-        printf("    read %#x instead of %#x\n", (unsigned)read.value, (unsigned)value);
-    bool right = is_answer(answer, read.answer);
-    check(name, is_all_expected() && right && read.value == value);
-}
 
 static uint8_t write_wide(uint64_t offset, uint32_t width)
 {
@@ -24,40 +14,21 @@ static uint8_t write_wide(uint64_t offset, uint32_t width)
 
 /* ---- the registers ---- */
 
-static struct thayarqo_device device_of_zeros(void)
-{
-    struct thayarqo_device zeros;
-    memset(&zeros, 0, sizeof zeros);
-    return zeros;
-}
-
 static void start_fresh(void)
 {
-    struct thayarqo_device fresh = device_of_zeros();
+    struct thayarqo_device fresh;
+    memset(&fresh, 0, sizeof fresh);
+    fresh.acceleration = 10;
     fresh.current_slot = THAYARQO_NO_SLOT;
     check("a fresh device", same_device(device, &fresh));
-    reads("MAGIC", THAYARQO_DONE, 0x584D4F55, 0, 4);
-    reads("REV at first", THAYARQO_DONE, 1, 4, 4);
+    reads("MAGIC", THAYARQO_DONE, 0x584D4F55, MAGIC, 4);
+    reads("REV at first", THAYARQO_DONE, 1, REV, 4);
     reads("CLIENT_REV at first", THAYARQO_DONE, 0, CLIENT_REV, 4);
     reads("EVENT_SIZE", THAYARQO_DONE, RECORD, 0x104, 4);
     reads("NPAGES", THAYARQO_DONE, 2, 0x108, 4);
     reads("CONF_SIZE", THAYARQO_DONE, ENTRY, 0x114, 4);
-    reads("ACCELERATION", THAYARQO_DONE, 0, 0x10C, 4);
+    reads("ACCELERATION at first", THAYARQO_DONE, 10, ACCELERATION, 4);
     reads("a word of the area", THAYARQO_DONE, 0x77777777, FIRST_RECORD, 4);
-}
-
-/* Zeros aren't a fresh device: slot 0 is current, and isn't taken. */
-static void refuse_zeros(void)
-{
-    uint8_t entry[ENTRY];
-    make_entry(entry, MOUSE, BUTTONS);
-    *device = next_device = device_of_zeros();
-    reads("a read of a device of zeros", THAYARQO_INVALID, 0, 0, 4);
-    answers("a write to it", THAYARQO_INVALID, write_register(CLIENT_REV, 2));
-    answers("an add to it", THAYARQO_INVALID, add(SLOT, entry, ENTRY));
-    answers("a remove from it", THAYARQO_INVALID, remove_slot(SLOT));
-    answers("a packet for it", THAYARQO_INVALID, put_motions(SLOT, 1, 0));
-    *device = next_device = thayarqo_fresh_device();
 }
 
 static void add_while_off(void)
@@ -75,28 +46,27 @@ static void add_while_off(void)
     answers("an entry without SYN", THAYARQO_MALFORMED, add(SLOT + 1, entry, ENTRY));
     reads("a word of its entry", THAYARQO_DONE, MOUSE, ENTRY_PAGE + SLOT * ENTRY + 40, 4);
     reads("the last word of the BAR", THAYARQO_DONE, 0, BAR - 4, 4);
-    memset(page.expected + (SLOTS - 1) * ENTRY, 0, ENTRY);
-    next_device.taken = UINT64_C(1) << SLOT;
-    answers("a remove while off", THAYARQO_DONE, remove_slot(SLOTS - 1));
+    remove_device("a remove while off", SLOTS - 1);
 }
 
 static void negotiate(void)
 {
+    write_client_rev("a CLIENT_REV that is rejected", 3);
+    reads("a rejected number reads 0", THAYARQO_DONE, 0, CLIENT_REV, 4);
+    reads("REV from then on", THAYARQO_DONE, 2, REV, 4);
     answers("CONTROL without CLIENT_REV", THAYARQO_DONE, write_register(CONTROL, 1));
     next_device.interrupts = true;
     answers("CONTROL, interrupts only", THAYARQO_DONE, write_register(CONTROL, 0xFFFFFFFF));
     reads("CONTROL keeps bit 1", THAYARQO_DONE, 2, CONTROL, 4);
-    next_device.client_rev_written = true;
-    answers("another CLIENT_REV", THAYARQO_DONE, write_register(CLIENT_REV, 3));
-    reads("REV from then on", THAYARQO_DONE, 2, 4, 4);
-    next_device.client_rev = 2;
-    answers("CLIENT_REV 2", THAYARQO_DONE, write_register(CLIENT_REV, 2));
+    write_client_rev("CLIENT_REV 2", 2);
+    reads("REV of it", THAYARQO_DONE, 2, REV, 4);
     switch_on("a switch-on");
     reads("CONTROL", THAYARQO_DONE, 3, CONTROL, 4);
     reads("WRITE_PTR", THAYARQO_DONE, 2, 0x1004, 4);
     answers("CLIENT_REV while on", THAYARQO_DONE, write_register(CLIENT_REV, 3));
     reads("it stays", THAYARQO_DONE, 2, CLIENT_REV, 4);
-    answers("ACCELERATION is ignored", THAYARQO_DONE, write_register(0x10C, 5));
+    answers("ACCELERATION is ignored", THAYARQO_DONE, write_register(ACCELERATION, 5));
+    reads("it reads 0 in revision 2", THAYARQO_DONE, 0, ACCELERATION, 4);
 }
 
 static void refuse_accesses(void)
@@ -157,16 +127,9 @@ static void remove_current(void)
     reads("ISR", THAYARQO_DONE, 1, ISR, 4);
     next_device.isr = false;
     answers("ISR is cleared", THAYARQO_DONE, write_register(ISR, 0));
-    memset(page.expected + 7 * ENTRY, 0, ENTRY);
-    next_device.taken = UINT64_C(1) << SLOT;
-    expect_record(EV_DEV, DEV_RESET, 7);
-    answers("a remove of another slot", THAYARQO_DONE, remove_slot(7));
+    remove_device("a remove of another slot", 7);
     answers("a second remove", THAYARQO_BAD_SLOT, remove_slot(7));
-    memset(page.expected + SLOT * ENTRY, 0, ENTRY);
-    next_device.taken = 0;
-    next_device.current_slot = THAYARQO_NO_SLOT;
-    expect_record(EV_DEV, DEV_RESET, SLOT);
-    answers("a remove of the current slot", THAYARQO_DONE, remove_slot(SLOT));
+    remove_device("a remove of the current slot", SLOT);
     answers("a packet for it", THAYARQO_BAD_SLOT, put_motions(SLOT, 1, 0));
     answers("a remove out of range", THAYARQO_BAD_SLOT, remove_slot(SLOTS));
     add_device("an add to it", SLOT, MOUSE, BUTTONS);
@@ -187,12 +150,9 @@ static void meet_full_ring(void)
 
 static void switch_off_and_on(void)
 {
-    next_device.on = next_device.interrupts = false;
-    answers("a switch-off", THAYARQO_DONE, write_register(CONTROL, 0));
+    switch_off("a switch-off");
     add_device("an add while off again", 9, MOUSE, BUTTONS);
-    memset(page.expected + 9 * ENTRY, 0, ENTRY);
-    next_device.taken = UINT64_C(1) << SLOT;
-    answers("a remove while off again", THAYARQO_DONE, remove_slot(9));
+    remove_device("a remove while off again", 9);
     switch_on("a second switch-on");
 }
 
@@ -200,7 +160,6 @@ int main(void)
 {
     make_world();
     start_fresh();
-    refuse_zeros();
     add_while_off();
     negotiate();
     refuse_accesses();

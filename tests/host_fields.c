@@ -28,8 +28,14 @@ static void write_register(uint64_t offset, uint32_t value)
 static void add(uint32_t slot)
 {
     uint8_t entry[ENTRY] = {0};
-    set_word(entry, 40, 1 << EV_SYN | 1 << EV_REL);
+    set_word(entry, 40, 1 << EV_SYN | 1 << EV_REL | 1 << EV_ABS);
+    set_word(entry, 44, 1 << ABS_X | 1 << ABS_Y);
     thayarqo_add(&device, geometry, area.bytes, AREA, page.bytes, PAGE, slot, entry, sizeof entry);
+}
+
+static void put_events(uint32_t slot, const struct thayarqo_event *events, size_t length)
+{
+    thayarqo_put_packet(&device, geometry, area.bytes, AREA, page.bytes, PAGE, slot, events, length);
 }
 
 static void put(uint32_t slot)
@@ -38,7 +44,7 @@ static void put(uint32_t slot)
     event.type = EV_REL;
     event.code = REL_WHEEL;
     event.value = 0x01020304;
-    thayarqo_put_packet(&device, geometry, area.bytes, AREA, page.bytes, PAGE, slot, &event, sizeof event);
+    put_events(slot, &event, sizeof event);
 }
 
 static unsigned device_flags(void)
@@ -63,6 +69,8 @@ static void geometry_and_value(void)
 static void fields_of_device(void)
 {
     check("the flags are false at first", device_flags() == 0);
+    write_register(0x10C, 7);
+    check("device.acceleration", device.acceleration == 7 && device.client_rev == 0 && device_flags() == 0);
     add(4);
     add(7);
     write_register(0x118, 3);
@@ -92,6 +100,22 @@ static void fields_of_event(void)
     size_t at = RECORD * (4 + 1);
     check("event.type, event.code", word(&area, at) == (EV_REL | REL_WHEEL << 16));
     check("event.value", word(&area, at + 4) == 0x01020304);
+}
+
+/* The position that the library puts there, and the one that it finds there. */
+static void fields_of_position(void)
+{
+    const struct thayarqo_event events[] = {{EV_ABS, ABS_X, 0x0102}, {EV_ABS, ABS_Y, 0x0304}};
+    write_register(0x100, 0);
+    write_register(0x118, 1);
+    write_register(0x100, 1);
+    put_events(4, events, sizeof events);
+    check("position.x", device.position.x == 0x0102);
+    check("position.y", device.position.y == 0x0304);
+    device.position.x = 0x0506;
+    device.position.y = 0x0708;
+    put_events(4, events, sizeof *events);
+    check("device.position", word(&area, RECORD * (2 + 1) + 4) == 0x07080102);
 }
 
 /* ---- the driver ---- */
@@ -153,6 +177,20 @@ static void fields_of_copied(void)
     check("copied.answer", copied.answer == THAYARQO_DONE && refused.answer == THAYARQO_NOTHING_TO_READ);
 }
 
+static void fields_of_taken(void)
+{
+    store_word(&area, 0, 0);
+    store_word(&area, 4, 1);
+    store_word(&area, RECORD, 0x12345678);
+    store_word(&area, RECORD + 4, 0x9ABCDEF0);
+    struct thayarqo_taken taken = thayarqo_revision1_step(geometry, area.bytes, AREA);
+    struct thayarqo_taken refused = thayarqo_revision1_step(geometry, area.bytes, AREA);
+    check("taken.flags", taken.flags == 0x5678 && refused.flags == 0);
+    check("taken.revision", taken.revision == 0x1234 && refused.revision == 0);
+    check("taken.data", taken.data == 0x9ABCDEF0 && refused.data == 0);
+    check("taken.answer", taken.answer == THAYARQO_DONE && refused.answer == THAYARQO_NOTHING_TO_READ);
+}
+
 /* ---- the keyboard ring ---- */
 
 /* An event's bytes: the first three, and the words at 4, 8 and 12. */
@@ -204,9 +242,11 @@ int main(void)
     geometry_and_value();
     fields_of_device();
     fields_of_event();
+    fields_of_position();
     fields_of_driver();
     fields_of_told();
     fields_of_copied();
+    fields_of_taken();
     fields_of_ring_event();
     fields_of_ring_found();
     release(&area);

@@ -15,9 +15,7 @@ static void start(void)
     answers("a packet while off", THAYARQO_DEVICE_OFF, put_motions(SLOT, 1, 0));
     answers("12 bytes while off", THAYARQO_INVALID, put_packet(SLOT, half, 12));
     add_device("an add", SLOT, POINTER, LEFT_AND_RIGHT);
-    next_device.client_rev_written = true;
-    next_device.client_rev = 2;
-    answers("CLIENT_REV", THAYARQO_DONE, write_register(0x118, 2));
+    write_client_rev("CLIENT_REV", 2);
     switch_on("a switch-on");
 }
 

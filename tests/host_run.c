@@ -43,9 +43,7 @@ static void all_is_read(const char *name)
 static void start(void)
 {
     add_device("an add", SLOT, MOUSE, 0);
-    next_device.client_rev_written = true;
-    next_device.client_rev = 2;
-    answers("CLIENT_REV", THAYARQO_DONE, write_register(0x118, 2));
+    write_client_rev("CLIENT_REV", 2);
     switch_on("a switch-on");
     next_device.current_slot = SLOT;
     next_device.isr = true;

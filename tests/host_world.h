@@ -12,6 +12,7 @@
 /* Records are longer than their 8 bytes, and entries than the 68 that are known, so that what is written too far is noticed. */
 enum { AREA = 8192, PAGE = THAYARQO_ENTRY_PAGE_LENGTH, RECORD = 16, ENTRY = 72, RING = 511, SLOTS = 56, SLOT = 4, EVENTS = 32 };
 enum { READ_PTR = 0, WRITE_PTR = 4 };
+enum { MAGIC = 0, REV = 4, CONTROL = 0x100, ACCELERATION = 0x10C, ISR = 0x110, CLIENT_REV = 0x118 };
 
 static const struct thayarqo_geometry geometry = {2, RECORD, ENTRY};
 static struct lent area, page, held, device_memory, driver_memory;
@@ -44,8 +45,9 @@ static inline void release_world(void)
 static inline bool same_device(const struct thayarqo_device *a, const struct thayarqo_device *b)
 {
     return a->on == b->on && a->interrupts == b->interrupts && a->isr == b->isr && a->lost == b->lost
-        && a->client_rev_written == b->client_rev_written && a->client_rev == b->client_rev && a->write_index == b->write_index
-        && a->current_slot == b->current_slot && a->taken == b->taken;
+        && a->client_rev_written == b->client_rev_written && a->client_rev == b->client_rev && a->acceleration == b->acceleration
+        && a->write_index == b->write_index && a->current_slot == b->current_slot && a->position.x == b->position.x
+        && a->position.y == b->position.y && a->taken == b->taken;
 }
 
 static inline bool same_driver(const struct thayarqo_driver *a, const struct thayarqo_driver *b)
@@ -101,11 +103,35 @@ static inline void expect_motions(uint32_t count, uint32_t value)
     expect_record(EV_SYN, SYN_REPORT, 0);
 }
 
+/* Where the guest is told of slots, a record comes with each. */
+static inline void expect_slot(uint16_t code, uint32_t slot)
+{
+    if (next_device.on && next_device.client_rev == 2)
+        expect_record(EV_DEV, code, slot);
+}
+
 /* ---- the calls, with the memory of this world ---- */
+
+static inline void reads(const char *name, uint8_t answer, uint32_t value, uint64_t offset, uint32_t width)
+{
+    struct thayarqo_value read = thayarqo_read(device, geometry, area.bytes, AREA, page.bytes, PAGE, offset, width);
+    if (read.value != value)
+        printf("    read %#x instead of %#x\n", (unsigned)read.value, (unsigned)value);
+    bool right = is_answer(answer, read.answer);
+    check(name, is_all_expected() && right && read.value == value);
+}
 
 static inline uint8_t write_register(uint64_t offset, uint32_t value)
 {
     return thayarqo_write(device, geometry, area.bytes, AREA, page.bytes, PAGE, offset, 4, value);
+}
+
+/* Any number is taken for CLIENT_REV while off, and all but two of them are rejected. */
+static inline void write_client_rev(const char *name, uint32_t value)
+{
+    next_device.client_rev_written = true;
+    next_device.client_rev = value == 1 || value == 2 ? (uint16_t)value : 0;
+    answers(name, THAYARQO_DONE, write_register(CLIENT_REV, value));
 }
 
 static inline uint8_t put_packet(uint32_t slot, const void *events, size_t length)
@@ -164,9 +190,19 @@ static inline void add_device(const char *name, uint32_t slot, uint32_t evbits, 
     make_entry(entry, evbits, btnbits);
     memcpy(page.expected + slot * ENTRY, entry, ENTRY);
     next_device.taken |= UINT64_C(1) << slot;
-    if (next_device.on)
-        expect_record(EV_DEV, DEV_CONF, slot);
+    expect_slot(DEV_CONF, slot);
     answers(name, THAYARQO_DONE, add(slot, entry, ENTRY));
+}
+
+/* Removes the device of a slot, from a ring with room. */
+static inline void remove_device(const char *name, uint32_t slot)
+{
+    memset(page.expected + slot * ENTRY, 0, ENTRY);
+    next_device.taken &= ~(UINT64_C(1) << slot);
+    if (next_device.current_slot == slot)
+        next_device.current_slot = THAYARQO_NO_SLOT;
+    expect_slot(DEV_RESET, slot);
+    answers(name, THAYARQO_DONE, remove_slot(slot));
 }
 
 /* Switches on, with interrupts. SLOT alone is taken. */
@@ -176,10 +212,18 @@ static inline void switch_on(const char *name)
     next_device.lost = false;
     next_device.write_index = 0;
     next_device.current_slot = THAYARQO_NO_SLOT;
+    next_device.position.x = next_device.position.y = 0;
     expect_word(&area, READ_PTR, 0);
-    expect_record(EV_DEV, DEV_RESET, THAYARQO_ALL_SLOTS);
-    expect_record(EV_DEV, DEV_CONF, SLOT);
-    answers(name, THAYARQO_DONE, write_register(0x100, 3));
+    expect_word(&area, WRITE_PTR, 0);
+    expect_slot(DEV_RESET, THAYARQO_ALL_SLOTS);
+    expect_slot(DEV_CONF, SLOT);
+    answers(name, THAYARQO_DONE, write_register(CONTROL, 3));
+}
+
+static inline void switch_off(const char *name)
+{
+    next_device.on = next_device.interrupts = false;
+    answers(name, THAYARQO_DONE, write_register(CONTROL, 0));
 }
 
 #endif

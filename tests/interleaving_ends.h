@@ -1,4 +1,4 @@
-/* For the tests of a device and its guest's driver at the same time: the pages that both see, and the state of each. */
+/* For the tests of a device and its guest at the same time: the pages that both see, and the state of each. */
 #ifndef INTERLEAVING_ENDS_H
 #define INTERLEAVING_ENDS_H
 
@@ -55,14 +55,14 @@ static inline struct thayarqo_told step_once(struct ends *ends)
     return thayarqo_step(&ends->driver, geometry, (uint8_t *)&ends->area, sizeof ends->area, ends->held, sizeof ends->held);
 }
 
-/* The device is on, and the driver has read all of its first records. */
-static inline void switch_on(struct ends *ends)
+/* The device is on, and the driver has read all of its first records, of which revision 1 has none. */
+static inline void switch_on(struct ends *ends, uint32_t revision)
 {
     ends->device = thayarqo_fresh_device();
     ends->driver = thayarqo_fresh_driver();
     add(ends, SLOT, 1);
     add(ends, SLOT + 1, 1);
-    write_register(ends, 0x118, 2);
+    write_register(ends, 0x118, revision);
     write_register(ends, 0x100, 1);
     while (step_once(ends).answer == THAYARQO_DONE)
         continue;

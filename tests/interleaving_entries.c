@@ -85,7 +85,7 @@ int main(void)
         return 0;
     }
     struct world *world = (struct world *)share(sizeof *world);
-    switch_on(&world->ends);
+    switch_on(&world->ends, 2);
     bool ended = interleave(plug, look, ALWAYS, world);
     bool all = world->added == ROUNDS && world->removed == ROUNDS && world->seen == ROUNDS && world->gone == ROUNDS;
     check("adds and removes, with a step after every instruction", ended && all && !world->wrong);

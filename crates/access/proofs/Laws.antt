@@ -1,3 +1,5 @@
--- By subject: where an offset lies, told from what stands there; and what is known of an access that nothing refuses.
+-- By subject: where an offset lies, told from what stands there; what is known of an access that nothing refuses; where ACCELERATION
+-- stands.
 pub mod Place
 pub mod Access
+pub mod Acceleration

@@ -1,11 +1,13 @@
--- The cases marked P on both sides of each edge (01): a row says the case, what is computed and what it must be.
-use Prim.Native.Nat.{ℕ, _^_}
+-- The cases marked P on both sides of each edge (01), and those of revision 1 (02, E1): a row says the case, what is computed and what it
+-- must be.
+use Prim.Native.Nat.{ℕ, _-_, _^_}
 use Prim.Native.String.{String}
 use mathlib.Core.Path.{_≡_}
 use mathlib.Core.Bool.{Bool, cond}
 use mathlib.Core.List.{List, [], _∷_}
 use lib.ListN.{length}
 use Rattle.geometry.specs.Geometry.{ringLength, ringOf, recordPlace, slotCount, entryPlace}
+use Rattle.revision1_motion.specs.Scaling.{isInRange, scaled}
 use Rattle.records.specs.Ring.{unreadCount, hasRoom}
 use Rattle.entries.specs.Offer.{isOffered}
 use Rattle.device.specs.declared.Device.{Device}
@@ -13,7 +15,7 @@ use Rattle.device.specs.Result.{Result}
 use Rattle.packets.specs.Rule.{packetAnswer, packetOf}
 use Rattle.registers.specs.Write.{writeOf}
 use Rattle.kbdif_page.specs.Page.{eventPlace}
-use Rattle.cases.specs.Setting.{sizes, fine, coarse, page, off, on, area, motions, absolute}
+use Rattle.cases.specs.Setting.{sizes, fine, coarse, page, off, on, unset, onInRevision1, area, motions, motion, minus, absolute}
 
 pub record Case : Type 0 where
   pub says : String
@@ -66,10 +68,41 @@ cases =
     ∷ case "keyboard ring: place 50 begins at" (eventPlace 50) 3024
     ∷ []
 
+-- ---- revision 1
+
+-- The device that never had CLIENT_REV written is switched on.
+abbrev started : Result
+started = writeOf fine unset (area 7 7) (length page) 0x100 4 1
+
+-- A signed number in 16 bits.
+abbrev back : ℕ → ℕ
+back size = 65536 - size
+
+abbrev pub casesInRevision1 : List Case
+casesInRevision1 =
+    case "-19 at 1 is -1" (scaled 1 (minus 19)) (back 1)
+    ∷ case "-9 at 1 is 0" (scaled 1 (minus 9)) 0
+    ∷ case "19 at 1 is 1" (scaled 1 19) 1
+    ∷ case "327679 at 1 is right" (number (isInRange 1 327679)) 1
+    ∷ case "327679 at 1 is 32767" (scaled 1 327679) 32767
+    ∷ case "327680 at 1 is too large" (number (isInRange 1 327680)) 0
+    ∷ case "-327689 at 1 is right" (number (isInRange 1 (minus 327689))) 1
+    ∷ case "-327689 at 1 is -32768" (scaled 1 (minus 327689)) (back 32768)
+    ∷ case "-327690 at 1 is too large" (number (isInRange 1 (minus 327690))) 0
+    ∷ case "16383 at 20 is right" (number (isInRange 20 16383)) 1
+    ∷ case "16384 at 20 is too large" (number (isInRange 20 16384)) 0
+    ∷ case "-16384 at 20 is right" (number (isInRange 20 (minus 16384))) 1
+    ∷ case "CLIENT_REV never written, switch-on: answer" (started .outcome .answer) 0
+    ∷ case "CLIENT_REV never written, switch-on: w" (started .outcome .device .producer .«write_index») 0
+    ∷ case "R = 63, unread 60: a packet of 16383 at 20" (packetAnswer coarse (onInRevision1 60) (area 0 60) page 4 (motion 16383)) 0
+    ∷ case "R = 63, unread 61: a packet of 16383 at 20" (packetAnswer coarse (onInRevision1 61) (area 0 61) page 4 (motion 16383)) 7
+    ∷ case "R = 63, unread 61: a packet of 16384 at 20" (packetAnswer coarse (onInRevision1 61) (area 0 61) page 4 (motion 16384)) 8
+    ∷ []
+
 -- Every row is right.
 abbrev pub AllRight : List Case → Type 0
 AllRight [] = Unit {0}
 AllRight (row ∷ rest) = (row .computed ≡ row .expected) × AllRight rest
 
 abbrev pub Cases : Type 0
-Cases = AllRight cases
+Cases = AllRight cases × AllRight casesInRevision1

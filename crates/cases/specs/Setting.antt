@@ -1,15 +1,15 @@
 -- The devices, pages and packets that the cases speak of.
-use Prim.Native.Nat.{ℕ, zero, suc}
+use Prim.Native.Nat.{ℕ, zero, suc, _-_, _^_}
 use mathlib.Core.Bool.{false}
 use mathlib.Core.List.{List, [], _++_}
 use lib.ListN.{replicate}
 use Rattle.words.specs.Words.{setU32}
 use Rattle.geometry.specs.declared.Geometry.{Geometry}
 use Rattle.records.specs.Event.{eventBytes}
-use Rattle.records.specs.Codes.{EV-REL}
+use Rattle.records.specs.Codes.{EV-REL, REL-X}
 use Rattle.records.specs.Ring.{withReadPointer, withWritePointer}
 use Rattle.device.specs.declared.Device.{Device}
-use Rattle.device.specs.Setters.{withClientRev}
+use Rattle.device.specs.Setters.{withClientRev, withAcceleration}
 use Rattle.device.specs.State.{freshDevice}
 use Rattle.hotplug.specs.Add.{afterAdd}
 use Rattle.packets.specs.Rule.{afterPacket}
@@ -35,7 +35,15 @@ off = withClientRev 2 (afterAdd fine 4 freshDevice)
 
 -- It is on, slot 4 is current, and so many records have been put.
 abbrev pub on : ℕ → Device
-on index = afterPacket 4 index (switchedOn false 0 off)
+on index = afterPacket 4 [] index (switchedOn false 0 off)
+
+-- The same device, with CLIENT_REV never written: revision 1. ACCELERATION is 20.
+abbrev pub unset : Device
+unset = withAcceleration 20 (afterAdd fine 4 freshDevice)
+
+-- It is on, and so many records have been put.
+abbrev pub onInRevision1 : ℕ → Device
+onInRevision1 index = switchedOn false index unset
 
 -- An event area with these pointers.
 abbrev pub area : ℕ → ℕ → List ℕ
@@ -44,7 +52,15 @@ area read write = withWritePointer (withReadPointer (replicate 4096 0) read) wri
 -- A packet of so many motions.
 abbrev pub motions : ℕ → List ℕ
 motions zero = []
-motions (suc count) = eventBytes (record { kind = EV-REL; code = 0; value = 1 }) ++ motions count
+motions (suc count) = eventBytes (record { kind = EV-REL; code = REL-X; value = 1 }) ++ motions count
+
+-- A packet of one motion.
+abbrev pub motion : ℕ → List ℕ
+motion value = eventBytes (record { kind = EV-REL; code = REL-X; value = value })
+
+-- A signed number in 32 bits.
+abbrev pub minus : ℕ → ℕ
+minus size = 2 ^ 32 - size
 
 -- An entry that offers ABS, with one bit in absbits' second word.
 abbrev pub absolute : ℕ → List ℕ

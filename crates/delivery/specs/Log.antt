@@ -1,17 +1,14 @@
--- What was sent and what was received, from the calls' arguments and answers alone.
+-- A list of calls as a log, with what each call answered, and the items that are sent and received.
 use Prim.Native.Nat.{ℕ}
-use mathlib.Core.Bool.{Bool, true, false, cond}
-use mathlib.Core.List.{List, [], _∷_, _++_}
+use mathlib.Core.Bool.{Bool, false}
+use mathlib.Core.List.{List, [], _∷_}
 use lib.Dec.{eqb}
-use Rattle.answers.specs.Answers.{done, noRoom, nothingToRead}
+use Rattle.answers.specs.Answers.{nothingToRead}
 use Rattle.geometry.specs.declared.Geometry.{Geometry}
 use Rattle.records.specs.declared.Event.{Event}
-use Rattle.records.specs.Event.{eventsFrom}
-use Rattle.assembly.specs.declared.Told.{Told}
-use Rattle.assembly.specs.declared.Told.the-variants as told
 use Rattle.assembly.specs.Transition.{answerOf}
-use Rattle.records.specs.Packet.{eventsOf}
-use Rattle.delivery.specs.World.{World, Call, read, write, add, remove, packet, step, Answer, numbered, valued, stepped, call}
+use Rattle.delivery.specs.World.{World, Call, read, write, add, remove, packet, step, call}
+use Rattle.delivery.specs.World.{Answer, numbered, valued, stepped, handed}
 
 -- A call with what it answered.
 pub record Entry : Type 0 where
@@ -28,80 +25,17 @@ abbrev pub after : Geometry → World → List Call → World
 after geometry world [] = world
 after geometry world (next ∷ rest) = after geometry (call geometry world next .world) rest
 
--- What is told in order: packets, each a slot with its events, and gaps.
-pub data Item : Type 0 where
-  gap : Item
-  whole : (slot : ℕ) → List Event → Item
-
--- ---- the received log: the gaps and packets that steps answered
-
-abbrev pub toldBy : Told → List ℕ → List Item
-toldBy (told.Refused number) buffer = []
-toldBy told.Nothing buffer = []
-toldBy told.Gap buffer = gap ∷ []
-toldBy told.EmptyReport buffer = []
-toldBy (told.Packet slot count) buffer = whole slot (eventsFrom buffer 0 count) ∷ []
-toldBy (told.Set slot) buffer = []
-toldBy (told.Conf slot) buffer = []
-toldBy (told.Reset slot) buffer = []
-toldBy told.ResetAll buffer = []
-
-abbrev pub receivedIn : Answer → List Item
-receivedIn (numbered n) = []
-receivedIn (valued v) = []
-receivedIn (stepped told buffer) = toldBy told buffer
-
-abbrev pub receivedLog : List Entry → List Item
-receivedLog [] = []
-receivedLog (entry ∷ rest) = receivedIn (entry .answered) ++ receivedLog rest
-
--- ---- the sent log: the packets answered 0, each after one gap if one was answered 7 since the last of them, or since switch-on
-
-abbrev pub gapIf : Bool → List Item
-gapIf refused = cond refused (gap ∷ []) []
-
 abbrev pub numberIn : Answer → ℕ
 numberIn (numbered n) = n
 numberIn (valued v) = v .answer
 numberIn (stepped told buffer) = answerOf told
+numberIn (handed taken) = taken .answer
 
--- What the log has to remember: whether a packet was refused for room since the one accepted before, or since switch-on.
-pub record Sender : Type 0 where
-  pub refused : Bool
-
-abbrev pub atSwitchOn : Sender
-atSwitchOn = record { refused = false }
-
--- What a call adds to the sent log, and what is remembered after it.
-pub record Sends : Type 0 where
-  pub items : List Item
-  pub next : Sender
-
-abbrev pub nothing : Sender → Sends
-nothing sender = record { items = []; next = sender }
-
--- A packet answered 0 is sent, after a gap where one was refused before it; one answered 7 is remembered.
-abbrev pub sendsPacket : Sender → ℕ → List Event → ℕ → Sends
-sendsPacket sender slot events n =
-    cond (eqb n done) (record { items = gapIf (sender .refused) ++ (whole slot events ∷ []); next = record { refused = false } })
-    (cond (eqb n noRoom) (nothing (record { refused = true })) (nothing sender))
-
-abbrev pub sends : Sender → Call → ℕ → Sends
-sends sender (read offset width) n = nothing sender
-sends sender (write offset width value) n = nothing sender
-sends sender (add slot entry) n = nothing sender
-sends sender (remove slot) n = nothing sender
-sends sender (packet slot events) n = sendsPacket sender slot (eventsOf events) n
-sends sender step n = nothing sender
-
-abbrev pub sentFrom : Sender → List Entry → List Item
-sentFrom sender [] = []
-sentFrom sender (entry ∷ rest) =
-    let now = sends sender (entry .did) (numberIn (entry .answered)) in
-    now .items ++ sentFrom (now .next) rest
-
-abbrev pub sentLog : List Entry → List Item
-sentLog log = sentFrom atSwitchOn log
+-- What is told in order. In revision 2: packets, each a slot with its events, and gaps. In revision 1: groups, each with its FENCE.
+pub data Item : Type 0 where
+  gap : Item
+  whole : (slot : ℕ) → List Event → Item
+  group : List Event → Item
 
 -- ---- the last call was a step that answered 11
 

@@ -1,3 +1,4 @@
+pub mod Revision
 pub mod Setters
 pub mod State
 pub mod Call

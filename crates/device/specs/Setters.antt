@@ -2,6 +2,7 @@
 -- field that is added is spelled in these two alone.
 use Prim.Native.Nat.{ℕ}
 use mathlib.Core.Bool.{Bool, true}
+use Rattle.revision1_records.specs.declared.Position.{Position}
 use Rattle.device.specs.declared.Registers.{Registers}
 use Rattle.device.specs.declared.Producer.{Producer}
 use Rattle.device.specs.declared.Device.{Device}
@@ -29,6 +30,7 @@ withControl on interrupts device =
       isr = device .registers .isr;
       «client_rev_written» = device .registers .«client_rev_written»;
       «client_rev» = device .registers .«client_rev»;
+      acceleration = device .registers .acceleration;
     })
     device
 
@@ -41,6 +43,7 @@ withIsr isr device =
       isr = isr;
       «client_rev_written» = device .registers .«client_rev_written»;
       «client_rev» = device .registers .«client_rev»;
+      acceleration = device .registers .acceleration;
     })
     device
 
@@ -54,6 +57,20 @@ withClientRev rev device =
       isr = device .registers .isr;
       «client_rev_written» = true;
       «client_rev» = rev;
+      acceleration = device .registers .acceleration;
+    })
+    device
+
+abbrev pub withAcceleration : ℕ → Device → Device
+withAcceleration acceleration device =
+    withRegisters
+    (record {
+      on = device .registers .on;
+      interrupts = device .registers .interrupts;
+      isr = device .registers .isr;
+      «client_rev_written» = device .registers .«client_rev_written»;
+      «client_rev» = device .registers .«client_rev»;
+      acceleration = acceleration;
     })
     device
 
@@ -62,17 +79,43 @@ withClientRev rev device =
 abbrev pub withWriteIndex : ℕ → Device → Device
 withWriteIndex index device =
     withProducer
-    (record { «write_index» = index; «current_slot» = device .producer .«current_slot»; lost = device .producer .lost })
+    (record {
+      «write_index» = index;
+      «current_slot» = device .producer .«current_slot»;
+      position = device .producer .position;
+      lost = device .producer .lost;
+    })
     device
 
 abbrev pub withCurrentSlot : ℕ → Device → Device
 withCurrentSlot slot device =
     withProducer
-    (record { «write_index» = device .producer .«write_index»; «current_slot» = slot; lost = device .producer .lost })
+    (record {
+      «write_index» = device .producer .«write_index»;
+      «current_slot» = slot;
+      position = device .producer .position;
+      lost = device .producer .lost;
+    })
+    device
+
+abbrev pub withPosition : Position → Device → Device
+withPosition position device =
+    withProducer
+    (record {
+      «write_index» = device .producer .«write_index»;
+      «current_slot» = device .producer .«current_slot»;
+      position = position;
+      lost = device .producer .lost;
+    })
     device
 
 abbrev pub withLost : Bool → Device → Device
 withLost lost device =
     withProducer
-    (record { «write_index» = device .producer .«write_index»; «current_slot» = device .producer .«current_slot»; lost = lost })
+    (record {
+      «write_index» = device .producer .«write_index»;
+      «current_slot» = device .producer .«current_slot»;
+      position = device .producer .position;
+      lost = lost;
+    })
     device

@@ -1,16 +1,21 @@
 // The device's state, and the rules that every state passed in must keep.
+mod client_rev;
 mod state;
 
 use answers::BAD_INDEX;
 use answers::DONE;
 use answers::NO_ROOM;
+pub use client_rev::is_revision1;
+pub use client_rev::may_run;
+pub use client_rev::revision_of;
 use geometry::Geometry;
 use geometry::Ring;
+use revision1_records::Position;
 pub use state::fresh;
 pub use state::fresh_producer;
+pub use state::is_acceleration;
 pub use state::is_taken;
 pub use state::keeps_rules;
-pub use state::may_run;
 ghost use mathlib.Core.Path.{_≡_};
 ghost use Prim.Native.Nat.{_<_};
 ghost use lib.ListN.{length};
@@ -29,18 +34,28 @@ pub struct Registers {
     pub isr: bool,
     // CLIENT_REV was written while off.
     pub client_rev_written: bool,
-    pub client_rev: u32,
+    pub client_rev: u16,
+    // In tenths. It is kept where it is hidden, too.
+    pub acceleration: u16,
+}
+
+// The revision that a device serves while it is on.
+pub enum Revision {
+    One,
+    Two,
 }
 
 // The device's end of the ring. A switch-on starts it anew.
 #[repr(C)]
 pub struct Producer {
-    // The lost mark: a packet was refused with 10 or 7 since the last one that was put, or since the switch-on.
-    pub lost: bool,
     // The private write index. WRITE_PTR in the area is a copy for the guest.
     pub write_index: u32,
-    // The slot of the last packet that was put; none after a switch-on, and after a remove of that slot.
+    // The slot of the last packet that was put in revision 2; none after a switch-on, and after a remove of that slot.
     pub current_slot: u32,
+    // The position of the last ABSOLUTE record, in revision 1; (0, 0) after a switch-on.
+    pub position: Position,
+    // The lost mark: a packet was refused with 10 or 7 since the last one that was put, in revision 1 since the switch-on.
+    pub lost: bool,
 }
 
 #[repr(C)]

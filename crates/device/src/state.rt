@@ -5,7 +5,8 @@ use crate::Registers;
 use records::codes::NO_SLOT;
 ghost use mathlib.Core.Path.{_≡_};
 ghost use mathlib.Core.Bool.{_&&_};
-ghost use Rattle.device.specs.State.{freshRegisters, freshProducer, freshDevice, isTaken, mayRun, clientRevRule, currentRule};
+ghost use Rattle.device.specs.State.{freshRegisters, freshProducer, freshDevice, isTaken, isAcceleration};
+ghost use Rattle.device.specs.State.{clientRevRule, accelerationRule, currentRule};
 
 fn fresh_registers() -> Registers
     ensures { λ r. ⌜ r ≡ freshRegisters ⌝ }
@@ -16,15 +17,18 @@ fn fresh_registers() -> Registers
         isr: false,
         client_rev_written: false,
         client_rev: 0,
+        acceleration: 10,
     }
 }
 
 pub fn fresh_producer() -> Producer
     ensures { λ r. ⌜ r ≡ freshProducer ⌝ }
 {
+    let position = revision1_records::origin();
     Producer {
         write_index: 0,
         current_slot: NO_SLOT,
+        position: position,
         lost: false,
     }
 }
@@ -47,21 +51,29 @@ pub fn is_taken(taken: u64, slot: u32) -> bool
     bits::is_set(taken, slot)
 }
 
-pub fn may_run(registers: Registers) -> bool
-    ensures { λ r. ⌜ r ≡ mayRun registers ⌝ }
+pub fn is_acceleration(value: u32) -> bool
+    ensures { λ r. ⌜ r ≡ isAcceleration value ⌝ }
 {
-    registers.client_rev == 2
+    if value < 1 {
+        return false;
+    }
+    value <= 20
 }
 
+// 0 is unset, or a number that was rejected.
 fn keeps_client_rev_rule(registers: Registers) -> bool
     ensures { λ r. ⌜ r ≡ clientRevRule registers ⌝ }
 {
-    let client_rev = registers.client_rev;
-    match client_rev {
-        0 => !registers.on,
-        2 => registers.client_rev_written,
-        _ => false,
+    if registers.client_rev > 2 {
+        return false;
     }
+    if registers.client_rev != 0 {
+        return registers.client_rev_written;
+    }
+    if !registers.on {
+        return true;
+    }
+    !registers.client_rev_written
 }
 
 fn keeps_current_rule(taken: u64, slot: u32) -> bool
@@ -74,9 +86,13 @@ fn keeps_current_rule(taken: u64, slot: u32) -> bool
 }
 
 pub fn keeps_rules(device: Device) -> bool
-    ensures { λ r. ⌜ r ≡ (clientRevRule (device .registers) && currentRule (device .taken) (device .producer .«current_slot»)) ⌝ }
+    ensures { λ r. ⌜ r ≡ (clientRevRule (device .registers) && (accelerationRule (device .registers)
+        && currentRule (device .taken) (device .producer .«current_slot»))) ⌝ }
 {
     if !keeps_client_rev_rule(device.registers) {
+        return false;
+    }
+    if !is_acceleration(device.registers.acceleration as u32) {
         return false;
     }
     keeps_current_rule(device.taken, device.producer.current_slot)

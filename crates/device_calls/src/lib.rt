@@ -29,7 +29,9 @@ pub extern "C" fn thayarqo_put_packet(
         (r ≡ put .outcome .answer) × (now (device .exit) ≡ put .outcome .device) × (now (area .exit) ≡ put .area)) ⌝ }
 {
     let out = packets::packet_rule(*device, geometry, area, page, slot, packet);
-    *device = out.device;
+    // All that a packet changes. To store the rest, too, it would have to be held through the call.
+    device.registers.isr = out.device.registers.isr;
+    device.producer = out.device.producer;
     out.answer
 }
 

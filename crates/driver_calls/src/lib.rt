@@ -1,14 +1,16 @@
-// The calls of a guest's driver.
+// The calls of a guest's driver, and of a revision 1 guest's reader.
 use answers::DONE;
 use answers::INVALID;
 use assembly::Driver;
 use assembly::Told;
 use copy_out::Copied;
 use geometry::Geometry;
+use revision1_reader::Taken;
 ghost use mathlib.Core.Path.{_≡_};
 ghost use Rattle.assembly.specs.Transition.{freshDriver};
 ghost use Rattle.driver.specs.Step.{stepOf};
 ghost use Rattle.copy_out.specs.CopyOut.{copyOf};
+ghost use Rattle.revision1_reader.specs.Step.{takeOf};
 ghost use Rattle.driver_calls.specs.Entry.{entryCopyAnswer, copiedEntry};
 ghost use Rattle.driver_calls.specs.Told.{numbersOf, steppedOf};
 
@@ -106,6 +108,14 @@ pub extern "C" fn thayarqo_step(
     let out = step_rule(*driver, geometry, area, packet);
     *driver = out.driver;
     out.answer
+}
+
+#[no_mangle]
+pub extern "C" fn thayarqo_revision1_step(geometry: Geometry, area: &mut [u8]) -> Taken
+    ensures { λ r. ⌜ (let take = takeOf geometry (now (area .entry)) in
+        (r ≡ take .taken) × (now (area .exit) ≡ take .area)) ⌝ }
+{
+    revision1_reader::step(geometry, area)
 }
 
 #[no_mangle]

@@ -11,6 +11,7 @@ use Rattle.bits.specs.Bits.{withBit}
 use Rattle.geometry.specs.declared.Geometry.{Geometry}
 use Rattle.geometry.specs.Geometry.{ringOf, slotCount}
 use Rattle.records.specs.declared.Event.{Event}
+use Rattle.records.specs.Put.{recordIf}
 use Rattle.records.specs.Codes.{DEV-CONF, devRecord}
 use Rattle.entries.specs.Entry.{isPresent, withEntry}
 use Rattle.device.specs.declared.Device.{Device}
@@ -19,11 +20,11 @@ use Rattle.device.specs.State.{isTaken}
 use Rattle.device.specs.Call.{isValidCall}
 use Rattle.device.specs.Room.{roomRefusals}
 use Rattle.device.specs.Result.{outcomeOf}
-use Rattle.hotplug.specs.Hotplug.{recordsIf, afterRecords, areaAfter, HotplugResult, unlessRefused}
+use Rattle.hotplug.specs.Hotplug.{tells, afterRecords, areaAfter, HotplugResult, unlessRefused}
 
--- While on, an add puts DEV_CONF with the slot.
+-- While on in revision 2, an add puts DEV_CONF with the slot.
 abbrev pub addRecords : Device → ℕ → List Event
-addRecords device slot = recordsIf (device .registers .on) (devRecord DEV-CONF slot)
+addRecords device slot = recordIf (tells (device .registers)) (devRecord DEV-CONF slot)
 
 abbrev pub addRefusals : Geometry → Device → List ℕ → List ℕ → ℕ → List ℕ → List (Bool × ℕ)
 addRefusals geometry device area page slot entry =

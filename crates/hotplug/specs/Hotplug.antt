@@ -1,21 +1,23 @@
--- What an add and a remove share: the record that is put while on, and what such a call leaves.
+-- What an add and a remove share: whether a record is put, and what such a call leaves.
 use Prim.Native.Nat.{ℕ}
-use mathlib.Core.Bool.{Bool, cond}
-use mathlib.Core.List.{List, [], _∷_}
+use mathlib.Core.Bool.{Bool, _&&_, cond}
+use mathlib.Core.List.{List}
 use lib.Dec.{eqb}
 use Rattle.answers.specs.Answers.{done}
 use Rattle.geometry.specs.declared.Geometry.{Geometry}
 use Rattle.geometry.specs.Geometry.{ringOf}
 use Rattle.records.specs.declared.Event.{Event}
 use Rattle.records.specs.Put.{putRecords, indexAfter}
+use Rattle.device.specs.declared.Registers.{Registers}
 use Rattle.device.specs.declared.Device.{Device}
 use Rattle.device.specs.declared.Outcome.{Outcome}
+use Rattle.device.specs.Revision.{isRevision2}
 use Rattle.device.specs.Setters.{withWriteIndex}
 use Rattle.device.specs.Result.{outcomeOf}
 
--- While on, the call puts one record; while off, none.
-abbrev pub recordsIf : Bool → Event → List Event
-recordsIf on event = cond on (event ∷ []) []
+-- While on in revision 2 the call puts one record, and else none (01; 02, E1).
+abbrev pub tells : Registers → Bool
+tells registers = registers .on && isRevision2 registers
 
 -- The state after these records are put.
 abbrev pub afterRecords : Geometry → List Event → Device → Device

@@ -10,6 +10,7 @@ use Rattle.bits.specs.Bits.{withoutBit}
 use Rattle.geometry.specs.declared.Geometry.{Geometry}
 use Rattle.geometry.specs.Geometry.{ringOf}
 use Rattle.records.specs.declared.Event.{Event}
+use Rattle.records.specs.Put.{recordIf}
 use Rattle.records.specs.Codes.{DEV-RESET, devRecord, noSlot}
 use Rattle.entries.specs.Entry.{withoutEntry}
 use Rattle.device.specs.declared.Device.{Device}
@@ -18,11 +19,11 @@ use Rattle.device.specs.State.{isTaken}
 use Rattle.device.specs.Call.{isValidCall}
 use Rattle.device.specs.Room.{roomRefusals}
 use Rattle.device.specs.Result.{outcomeOf}
-use Rattle.hotplug.specs.Hotplug.{recordsIf, afterRecords, areaAfter, HotplugResult, unlessRefused}
+use Rattle.hotplug.specs.Hotplug.{tells, afterRecords, areaAfter, HotplugResult, unlessRefused}
 
--- While on, a remove puts DEV_RESET with the slot.
+-- While on in revision 2, a remove puts DEV_RESET with the slot.
 abbrev pub removeRecords : Device → ℕ → List Event
-removeRecords device slot = recordsIf (device .registers .on) (devRecord DEV-RESET slot)
+removeRecords device slot = recordIf (tells (device .registers)) (devRecord DEV-RESET slot)
 
 -- A slot out of range is never taken.
 abbrev pub removeRefusals : Geometry → Device → List ℕ → List ℕ → ℕ → List (Bool × ℕ)

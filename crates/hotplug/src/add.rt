@@ -1,5 +1,5 @@
 // A device added to a slot.
-use crate::put_if;
+use crate::tells;
 use answers::BAD_SLOT;
 use answers::DONE;
 use answers::INVALID;
@@ -38,7 +38,7 @@ fn add_refusal(
     if !entries::is_present(entry) {
         return MALFORMED;
     }
-    let needed = bits::bit_of(device.registers.on);
+    let needed = bits::bit_of(tells(device.registers));
     let index = device.producer.write_index;
     device::room_refusal(geometry::ring_of(geometry), area, index, needed)
 }
@@ -62,8 +62,8 @@ pub fn add_rule(
     entries::write_entry(geometry, page, slot, entry);
     let ring = geometry::ring_of(geometry);
     let index = device.producer.write_index;
-    let on = device.registers.on;
-    let next = put_if(ring, area, index, on, dev_record(DEV_CONF, slot));
+    let told = tells(device.registers);
+    let next = records::put_if(ring, area, index, told, dev_record(DEV_CONF, slot));
     let mut after = device;
     after.producer.write_index = next;
     after.taken = bits::set(device.taken, slot);

@@ -1,5 +1,5 @@
 // A device removed from its slot.
-use crate::put_if;
+use crate::tells;
 use answers::BAD_SLOT;
 use answers::DONE;
 use answers::INVALID;
@@ -22,7 +22,7 @@ fn remove_refusal(geometry: Geometry, device: Device, area: &[u8], page: &[u8], 
     if !device::is_taken(device.taken, slot) {
         return BAD_SLOT;
     }
-    let needed = bits::bit_of(device.registers.on);
+    let needed = bits::bit_of(tells(device.registers));
     let index = device.producer.write_index;
     device::room_refusal(geometry::ring_of(geometry), area, index, needed)
 }
@@ -54,8 +54,8 @@ pub fn remove_rule(
     entries::clear_entry(geometry, page, slot);
     let ring = geometry::ring_of(geometry);
     let index = device.producer.write_index;
-    let on = device.registers.on;
-    let next = put_if(ring, area, index, on, dev_record(DEV_RESET, slot));
+    let told = tells(device.registers);
+    let next = records::put_if(ring, area, index, told, dev_record(DEV_RESET, slot));
     let current = current_without(device.producer.current_slot, slot);
     let mut after = device;
     after.producer.write_index = next;

@@ -1,27 +1,30 @@
 // A packet of events for a slot: refused, or put whole.
-use answers::BAD_INDEX;
+mod revision1;
+mod revision2;
+
 use answers::BAD_SLOT;
 use answers::DEVICE_OFF;
 use answers::DONE;
 use answers::INVALID;
 use answers::MALFORMED;
-use answers::NO_ROOM;
 use answers::NOT_OFFERED;
 use device::Device;
 use device::Outcome;
 use device::Registers;
+use device::Revision;
 use device::answered;
 use geometry::Geometry;
-use packet_records::put_packet;
-use packet_records::record_count;
 use records::MOST_EVENTS;
+use revision1::put_in_revision1;
+use revision2::put_in_revision2;
 ghost use mathlib.Core.Path.{_≡_};
 ghost use mathlib.Core.Bool.{true, _||_};
 ghost use lib.ListN.{length};
+ghost use Rattle.answers.specs.Refusals.{firstRefusal};
 ghost use Rattle.records.specs.Packet.{eventsOf};
 ghost use Rattle.device.specs.Setters.{withLost};
 ghost use Rattle.packets.specs.Packet.{allOffered};
-ghost use Rattle.packets.specs.Rule.{isValidPacketCall, packetAnswer, afterPacket, packetOf};
+ghost use Rattle.packets.specs.Rule.{isValidPacketCall, offerRefusals, packetOf};
 
 fn offers_all(entry: &[u8], packet: &[u8]) -> bool
     requires { ⌜ length (now entry) ≡ 68 ⌝ }
@@ -59,17 +62,18 @@ fn is_valid_packet_call(
     packet_size % 8 == 0
 }
 
-fn packet_refusal(
+// What the call, the packet and the slot's entry decide, whatever the revision.
+fn offer_refusal(
     geometry: Geometry,
     device: Device,
-    area: &[u8],
+    area_size: usize,
     page: &[u8],
     slot: u32,
     packet: &[u8],
 ) -> u8
-    ensures { λ r. ⌜ r ≡ packetAnswer geometry device (now (area .entry)) (now (page .entry)) slot (now (packet .entry)) ⌝ }
+    ensures { λ r. ⌜ r ≡ firstRefusal (offerRefusals geometry device «area_size» (now (page .entry)) slot (now (packet .entry))) ⌝ }
 {
-    if !is_valid_packet_call(geometry, device, area.len(), page.len(), packet.len()) {
+    if !is_valid_packet_call(geometry, device, area_size, page.len(), packet.len()) {
         return INVALID;
     }
     if !device.registers.on {
@@ -89,14 +93,10 @@ fn packet_refusal(
     if !offers_all(&page[start..start + entries::KNOWN_LENGTH], packet) {
         return NOT_OFFERED;
     }
-    let lost = device.producer.lost;
-    let current = device.producer.current_slot;
-    let needed = record_count(lost, current, slot, packet);
-    let index = device.producer.write_index;
-    device::room_refusal(geometry::ring_of(geometry), area, index, needed)
+    DONE
 }
 
-fn lose(device: Device) -> Device
+pub(crate) fn lose(device: Device) -> Device
     ensures { λ r. ⌜ r ≡ withLost true device ⌝ }
 {
     let mut after = device;
@@ -104,25 +104,10 @@ fn lose(device: Device) -> Device
     after
 }
 
-fn raises(registers: Registers) -> bool
+pub(crate) fn raises(registers: Registers) -> bool
     ensures { λ r. ⌜ r ≡ (registers .isr || registers .interrupts) ⌝ }
 {
-    if registers.isr {
-        return true;
-    }
-    registers.interrupts
-}
-
-fn accept(device: Device, slot: u32, index: u32) -> Device
-    ensures { λ r. ⌜ r ≡ afterPacket slot index device ⌝ }
-{
-    let isr = raises(device.registers);
-    let mut after = device;
-    after.registers.isr = isr;
-    after.producer.write_index = index;
-    after.producer.current_slot = slot;
-    after.producer.lost = false;
-    after
+    registers.isr | registers.interrupts
 }
 
 // Refuses in order, tests the room for all records, then puts them. The events are lent as bytes, so that none is copied before it is put.
@@ -137,17 +122,13 @@ pub fn packet_rule(
     ensures { λ r. ⌜ (let put = packetOf geometry device (now (area .entry)) (now (page .entry)) slot (now (packet .entry)) in
         (r ≡ put .outcome) × (now (area .exit) ≡ put .area)) ⌝ }
 {
-    let refusal = packet_refusal(geometry, device, &area[..], page, slot, packet);
-    match refusal {
-        DONE => {}
-        BAD_INDEX => return answered(refusal, lose(device)),
-        NO_ROOM => return answered(refusal, lose(device)),
-        _ => return answered(refusal, device),
+    let refusal = offer_refusal(geometry, device, area.len(), page, slot, packet);
+    if refusal != DONE {
+        return answered(refusal, device);
     }
-    let ring = geometry::ring_of(geometry);
-    let index = device.producer.write_index;
-    let lost = device.producer.lost;
-    let current = device.producer.current_slot;
-    let next = put_packet(ring, area, index, lost, current, slot, packet);
-    answered(DONE, accept(device, slot, next))
+    let revision = device::revision_of(device.registers);
+    match revision {
+        Revision::One => put_in_revision1(device, geometry, area, packet),
+        Revision::Two => put_in_revision2(device, geometry, area, slot, packet),
+    }
 }

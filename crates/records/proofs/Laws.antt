@@ -5,6 +5,7 @@ pub mod Events
 pub mod Place
 pub mod Put
 pub mod PutAll
+pub mod Remains
 pub mod Packet
 pub mod Unread
 pub mod Unknown

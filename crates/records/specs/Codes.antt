@@ -26,6 +26,30 @@ SYN-MT-REPORT = 2
 abbrev pub SYN-DROPPED : ℕ
 SYN-DROPPED = 3
 
+abbrev pub REL-X : ℕ
+REL-X = 0x00
+
+abbrev pub REL-Y : ℕ
+REL-Y = 0x01
+
+abbrev pub REL-WHEEL : ℕ
+REL-WHEEL = 0x08
+
+abbrev pub ABS-X : ℕ
+ABS-X = 0x00
+
+abbrev pub ABS-Y : ℕ
+ABS-Y = 0x01
+
+abbrev pub BTN-LEFT : ℕ
+BTN-LEFT = 0x110
+
+abbrev pub BTN-RIGHT : ℕ
+BTN-RIGHT = 0x111
+
+abbrev pub BTN-MIDDLE : ℕ
+BTN-MIDDLE = 0x112
+
 abbrev pub DEV-SET : ℕ
 DEV-SET = 1
 

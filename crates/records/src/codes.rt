@@ -19,6 +19,22 @@ pub const SYN_MT_REPORT: u16 = 2;
 
 pub const SYN_DROPPED: u16 = 3;
 
+pub const REL_X: u16 = 0x00;
+
+pub const REL_Y: u16 = 0x01;
+
+pub const REL_WHEEL: u16 = 0x08;
+
+pub const ABS_X: u16 = 0x00;
+
+pub const ABS_Y: u16 = 0x01;
+
+pub const BTN_LEFT: u16 = 0x110;
+
+pub const BTN_RIGHT: u16 = 0x111;
+
+pub const BTN_MIDDLE: u16 = 0x112;
+
 pub const DEV_SET: u16 = 1;
 
 pub const DEV_CONF: u16 = 2;

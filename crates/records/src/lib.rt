@@ -10,6 +10,7 @@ ghost use lib.ListN.{length};
 ghost use Rattle.records.specs.Event.{eventBytes, eventAt};
 ghost use Rattle.records.specs.Ring.{Holds, readPointer, writePointer, withReadPointer, withWritePointer, nextIndex, unreadCount};
 ghost use Rattle.records.specs.Ring.{hasRoom, putRecord};
+ghost use Rattle.records.specs.Put.{recordIf, Put};
 ghost use Rattle.records.specs.Unread.{recordAt};
 
 // A packet has so many events at most.
@@ -128,4 +129,15 @@ pub fn put_record(ring: Ring, area: &mut [u8], index: u32, event: Event) -> u32
     let next = next_index(ring, index);
     set_write_pointer(area, next);
     next
+}
+
+// Puts the record or none, and answers the index of the next one.
+pub fn put_if(ring: Ring, area: &mut [u8], index: u32, given: bool, event: Event) -> u32
+    requires { ⌜ (Holds (length (now area)) ring) × (index < ring .length) ⌝ }
+    ensures { λ r. ⌜ Put ring index (recordIf given event) (now (area .entry)) (now (area .exit)) r ⌝ }
+{
+    if !given {
+        return index;
+    }
+    put_record(ring, area, index, event)
 }

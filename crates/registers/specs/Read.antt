@@ -1,4 +1,4 @@
--- What a read gives (01, "Registers"). A refused read gives value 0.
+-- What a read gives (01, "Registers"; 02, E1). A refused read gives value 0.
 use Prim.Native.Nat.{ℕ, _+_, _-_, _*_}
 use mathlib.Core.Bool.{false, cond}
 use mathlib.Core.List.{List}
@@ -10,6 +10,7 @@ use Rattle.bits.specs.Bits.{bitOf}
 use Rattle.geometry.specs.declared.Geometry.{Geometry}
 use Rattle.geometry.specs.Geometry.{areaLength}
 use Rattle.device.specs.declared.Device.{Device}
+use Rattle.device.specs.Revision.{isRevision1}
 use Rattle.access.specs.declared.Place.{Place}
 use Rattle.access.specs.declared.Place.the-variants.{Magic, Rev, Control, EventSize, Npages, Acceleration, Isr}
 use Rattle.access.specs.declared.Place.the-variants.{ConfSize, ClientRev, ReadPtr, EventArea, EntryPage, Nothing}
@@ -17,15 +18,15 @@ use Rattle.registers.specs.declared.Value.{Value}
 use Rattle.access.specs.Place.{placeOf}
 use Rattle.access.specs.Access.{accessAnswer}
 
--- REV reads 1 until CLIENT_REV has been written while off. CONTROL has bits 0 (on) and 1 (interrupts). ACCELERATION reads 0.
+-- REV reads 1 in revision 1, and else 2. CONTROL has bits 0 (on) and 1 (interrupts). ACCELERATION reads in revision 1, and else 0.
 -- The words of the event area and of the entry page read as the bytes there.
 abbrev pub valueOf : Geometry → Device → List ℕ → List ℕ → ℕ → Place → ℕ
 valueOf geometry device area page offset Magic = 0x584D4F55
-valueOf geometry device area page offset Rev = cond (device .registers .«client_rev_written») 2 1
+valueOf geometry device area page offset Rev = cond (isRevision1 (device .registers)) 1 2
 valueOf geometry device area page offset Control = bitOf (device .registers .on) + 2 * bitOf (device .registers .interrupts)
 valueOf geometry device area page offset EventSize = geometry .«record_size»
 valueOf geometry device area page offset Npages = geometry .pages
-valueOf geometry device area page offset Acceleration = 0
+valueOf geometry device area page offset Acceleration = cond (isRevision1 (device .registers)) (device .registers .acceleration) 0
 valueOf geometry device area page offset Isr = bitOf (device .registers .isr)
 valueOf geometry device area page offset ConfSize = geometry .«entry_size»
 valueOf geometry device area page offset ClientRev = device .registers .«client_rev»

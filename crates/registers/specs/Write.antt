@@ -1,4 +1,4 @@
--- What a write does (01, "Registers"). Writes to read-only places were refused before, so they do nothing here.
+-- What a write does (01, "Registers"; 02, E1). Writes to read-only places were refused before, so they do nothing here.
 use Prim.Native.Nat.{ℕ}
 use mathlib.Core.Bool.{true, false, not, _&&_, cond}
 use mathlib.Core.List.{List}
@@ -9,8 +9,9 @@ use Rattle.bits.specs.Bits.{bit}
 use Rattle.geometry.specs.declared.Geometry.{Geometry}
 use Rattle.records.specs.Ring.{withReadPointer}
 use Rattle.device.specs.declared.Device.{Device}
-use Rattle.device.specs.Setters.{withControl, withIsr, withClientRev}
-use Rattle.device.specs.State.{mayRun}
+use Rattle.device.specs.Revision.{isRevision1, mayRun}
+use Rattle.device.specs.Setters.{withControl, withIsr, withClientRev, withAcceleration}
+use Rattle.device.specs.State.{isAcceleration}
 use Rattle.device.specs.Result.{Result, resultOf}
 use Rattle.access.specs.declared.Place.{Place}
 use Rattle.access.specs.declared.Place.the-variants.{Magic, Rev, Control, EventSize, Npages, Acceleration, Isr}
@@ -19,29 +20,34 @@ use Rattle.access.specs.Place.{placeOf}
 use Rattle.access.specs.Access.{accessAnswer}
 use Rattle.switch_on.specs.SwitchOn.{switchOn}
 
--- Bit 0 stays 0 unless CLIENT_REV is 2. Switch-off keeps pages, pointers and ISR.
+-- Bit 0 stays 0 where CLIENT_REV was rejected. Switch-off keeps pages, pointers and ISR.
 unfoldable pub controlOf : Geometry → Device → List ℕ → ℕ → Result
 controlOf geometry device area value =
     cond (bit value 0 && (mayRun (device .registers) && not (device .registers .on)))
     (switchOn geometry device area (bit value 1))
     (resultOf done (withControl (bit value 0 && mayRun (device .registers)) (bit value 1) device) area)
 
--- 2 makes CLIENT_REV 2, any other number makes it 0.
+-- 1 and 2 are taken; any other number is rejected and makes CLIENT_REV 0.
 abbrev pub clientRevFor : ℕ → ℕ
-clientRevFor value = cond (eqb value 2) 2 0
+clientRevFor value = cond (eqb value 2) 2 (cond (eqb value 1) 1 0)
 
 -- While on, a write to CLIENT_REV changes nothing.
 unfoldable pub clientRevOf : Device → ℕ → Device
 clientRevOf device value = cond (device .registers .on) device (withClientRev (clientRevFor value) device)
 
--- Any write to ISR clears it. READ_PTR takes any number. ACCELERATION ignores what is written.
+-- In revision 1 ACCELERATION takes 1 to 20; all else is ignored.
+unfoldable pub accelerationOf : Device → ℕ → Device
+accelerationOf device value =
+    cond (isRevision1 (device .registers) && isAcceleration value) (withAcceleration value device) device
+
+-- Any write to ISR clears it. READ_PTR takes any number.
 abbrev pub effectOf : Geometry → Device → List ℕ → ℕ → Place → Result
 effectOf geometry device area value Magic = resultOf done device area
 effectOf geometry device area value Rev = resultOf done device area
 effectOf geometry device area value Control = controlOf geometry device area value
 effectOf geometry device area value EventSize = resultOf done device area
 effectOf geometry device area value Npages = resultOf done device area
-effectOf geometry device area value Acceleration = resultOf done device area
+effectOf geometry device area value Acceleration = resultOf done (accelerationOf device value) area
 effectOf geometry device area value Isr = resultOf done (withIsr false device) area
 effectOf geometry device area value ConfSize = resultOf done device area
 effectOf geometry device area value ClientRev = resultOf done (clientRevOf device value) area

@@ -6,25 +6,36 @@ use access::access_refusal;
 use access::place_of;
 use answers::DONE;
 use device::Device;
+use device::Registers;
 use geometry::Geometry;
 ghost use mathlib.Core.Path.{_≡_};
 ghost use mathlib.Core.Bool.{false, cond};
 ghost use Prim.Native.Nat.{_+_, _*_};
 ghost use lib.ListN.{length};
 ghost use Rattle.bits.specs.Bits.{bitOf};
+ghost use Rattle.device.specs.Revision.{isRevision1};
 ghost use Rattle.access.specs.Place.{placeOf};
 ghost use Rattle.access.specs.Access.{accessAnswer};
 ghost use Rattle.registers.specs.Read.{valueOf, readOf};
 
 const MAGIC: u32 = 0x584D_4F55;
 
-fn revision(client_rev_written: bool) -> u32
-    ensures { λ r. ⌜ r ≡ cond «client_rev_written» 2 1 ⌝ }
+fn revision(registers: Registers) -> u32
+    ensures { λ r. ⌜ r ≡ cond (isRevision1 registers) 1 2 ⌝ }
 {
-    if client_rev_written {
-        return 2;
+    if device::is_revision1(registers) {
+        return 1;
     }
-    1
+    2
+}
+
+fn acceleration(registers: Registers) -> u32
+    ensures { λ r. ⌜ r ≡ cond (isRevision1 registers) (registers .acceleration) 0 ⌝ }
+{
+    if device::is_revision1(registers) {
+        return registers.acceleration as u32;
+    }
+    0
 }
 
 fn control(on: bool, interrupts: bool) -> u32
@@ -40,14 +51,14 @@ fn value_at(geometry: Geometry, device: Device, area: &[u8], page: &[u8], offset
     let place = place_of(geometry, offset);
     match place {
         Place::Magic => MAGIC,
-        Place::Rev => revision(device.registers.client_rev_written),
+        Place::Rev => revision(device.registers),
         Place::Control => control(device.registers.on, device.registers.interrupts),
         Place::EventSize => geometry.record_size,
         Place::Npages => geometry.pages,
-        Place::Acceleration => 0,
+        Place::Acceleration => acceleration(device.registers),
         Place::Isr => bits::bit_of(device.registers.isr),
         Place::ConfSize => geometry.entry_size,
-        Place::ClientRev => device.registers.client_rev,
+        Place::ClientRev => device.registers.client_rev as u32,
         Place::ReadPtr => words::read_u32(area, 0),
         Place::EventArea => words::read_u32(area, (offset - AREA_OFFSET) as usize),
         Place::EntryPage => {

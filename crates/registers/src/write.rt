@@ -13,7 +13,7 @@ ghost use Rattle.geometry.specs.Geometry.{allowed, ringOf};
 ghost use Rattle.records.specs.Ring.{Holds};
 ghost use Rattle.device.specs.Setters.{withControl, withIsr};
 ghost use Rattle.device.specs.Result.{outcomeOf};
-ghost use Rattle.registers.specs.Write.{controlOf, clientRevFor, clientRevOf, effectOf, writeOf};
+ghost use Rattle.registers.specs.Write.{controlOf, clientRevFor, clientRevOf, accelerationOf, effectOf, writeOf};
 
 fn done(device: Device) -> Outcome
     ensures { λ r. ⌜ r ≡ outcomeOf 0 device ⌝ }
@@ -59,13 +59,14 @@ fn write_isr(device: Device) -> Outcome
     done(after)
 }
 
-fn client_rev_for(value: u32) -> u32
+fn client_rev_for(value: u32) -> u16
     ensures { λ r. ⌜ r ≡ clientRevFor value ⌝ }
 {
-    if value == 2 {
-        return 2;
+    match value {
+        1 => 1,
+        2 => 2,
+        _ => 0,
     }
-    0
 }
 
 fn write_client_rev(device: Device, value: u32) -> Outcome
@@ -78,6 +79,21 @@ fn write_client_rev(device: Device, value: u32) -> Outcome
     let mut after = device;
     after.registers.client_rev_written = true;
     after.registers.client_rev = client_rev;
+    done(after)
+}
+
+fn write_acceleration(device: Device, value: u32) -> Outcome
+    ensures { λ r. ⌜ r ≡ outcomeOf 0 (accelerationOf device value) ⌝ }
+{
+    if !device::is_revision1(device.registers) {
+        return done(device);
+    }
+    if !device::is_acceleration(value) {
+        return done(device);
+    }
+    let acceleration = value as u16;
+    let mut after = device;
+    after.registers.acceleration = acceleration;
     done(after)
 }
 
@@ -94,6 +110,7 @@ fn write_at(
 {
     match place {
         Place::Control => write_control(geometry, device, area, value),
+        Place::Acceleration => write_acceleration(device, value),
         Place::Isr => write_isr(device),
         Place::ClientRev => write_client_rev(device, value),
         Place::ReadPtr => {

@@ -1,5 +1,5 @@
--- Switch-on (01): both pointers become 0, the current slot none, the lost mark clear; then DEV_RESET 0xFFFF and a DEV_CONF for each
--- taken slot, rising. If these don't fit the answer is 7.
+-- Switch-on (01): both pointers become 0, the current slot none, the lost mark clear; then, in revision 2, DEV_RESET 0xFFFF and a
+-- DEV_CONF for each taken slot, rising. If these don't fit the answer is 7. In revision 1 no record is put (02, E1).
 use Prim.Native.Nat.{ℕ, zero, suc, _-_}
 use mathlib.Core.Bool.{Bool, true, cond}
 use mathlib.Core.List.{List, [], _∷_, map}
@@ -14,6 +14,9 @@ use Rattle.records.specs.Codes.{DEV-CONF, DEV-RESET, allSlots, devRecord}
 use Rattle.records.specs.Ring.{withReadPointer, withWritePointer}
 use Rattle.records.specs.Put.{putRecords, indexAfter}
 use Rattle.device.specs.declared.Device.{Device}
+use Rattle.device.specs.declared.Revision.{Revision}
+use Rattle.device.specs.declared.Revision.the-variants as revision
+use Rattle.device.specs.Revision.{revisionOf}
 use Rattle.device.specs.Setters.{withProducer, withControl, withWriteIndex}
 use Rattle.device.specs.State.{freshProducer}
 use Rattle.device.specs.Result.{Result, resultOf}
@@ -23,11 +26,13 @@ unfoldable pub takenFrom : ℕ → ℕ → ℕ → List ℕ
 takenFrom taken slot zero = []
 takenFrom taken slot (suc count) = cond (bit taken slot) (slot ∷ takenFrom taken (suc slot) count) (takenFrom taken (suc slot) count)
 
-abbrev pub takenSlots : Geometry → Device → List ℕ
-takenSlots geometry device = takenFrom (device .taken) 0 (slotCount geometry)
+-- The first records for so many slots.
+abbrev pub recordsAtStart : Revision → ℕ → ℕ → List Event
+recordsAtStart revision.One taken slots = []
+recordsAtStart revision.Two taken slots = devRecord DEV-RESET allSlots ∷ map (devRecord DEV-CONF) (takenFrom taken 0 slots)
 
 abbrev pub startRecords : Geometry → Device → List Event
-startRecords geometry device = devRecord DEV-RESET allSlots ∷ map (devRecord DEV-CONF) (takenSlots geometry device)
+startRecords geometry device = recordsAtStart (revisionOf (device .registers)) (device .taken) (slotCount geometry)
 
 -- Both pointers 0.
 abbrev pub clearedPointers : List ℕ → List ℕ

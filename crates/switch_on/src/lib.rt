@@ -1,8 +1,9 @@
-// The device switched on: the ring starts anew, with a record for each taken slot.
+// The device switched on: the ring starts anew, in revision 2 with a record for each taken slot.
 use answers::DONE;
 use answers::NO_ROOM;
 use device::Device;
 use device::Outcome;
+use device::Revision;
 use geometry::Geometry;
 use geometry::Ring;
 use records::codes::ALL_SLOTS;
@@ -16,10 +17,10 @@ ghost use Prim.Native.Nat.{_≤_, _<_};
 ghost use lib.ListN.{length};
 ghost use Rattle.bits.specs.Bits.{bit};
 ghost use Rattle.geometry.specs.Geometry.{allowed, ringOf};
-ghost use Rattle.records.specs.Codes.{DEV-CONF, DEV-RESET, allSlots, devRecord};
+ghost use Rattle.records.specs.Codes.{DEV-CONF, devRecord};
 ghost use Rattle.records.specs.Ring.{Holds};
 ghost use Rattle.records.specs.Put.{Put};
-ghost use Rattle.switch_on.specs.SwitchOn.{takenFrom, clearedPointers, switchedOn, switchOn};
+ghost use Rattle.switch_on.specs.SwitchOn.{takenFrom, recordsAtStart, clearedPointers, switchedOn, switchOn};
 
 fn taken_count(taken: u64, slots: u32) -> u32
     ensures { λ r. ⌜ r ≡ length (takenFrom taken 0 slots) ⌝ }
@@ -31,6 +32,17 @@ fn taken_count(taken: u64, slots: u32) -> u32
         slot += 1;
     }
     count
+}
+
+// How many records the ring begins with.
+fn start_count(revision: Revision, taken: u64, slots: u32) -> u32
+    requires { ⌜ slots ≤ 60 ⌝ }
+    ensures { λ r. ⌜ r ≡ length (recordsAtStart revision taken slots) ⌝ }
+{
+    match revision {
+        Revision::One => 0,
+        Revision::Two => taken_count(taken, slots) + 1,
+    }
 }
 
 fn clear_pointers(area: &mut [u8])
@@ -64,13 +76,17 @@ fn put_slots(ring: Ring, area: &mut [u8], index: u32, taken: u64, slots: u32) ->
     at
 }
 
-fn put_start(ring: Ring, area: &mut [u8], taken: u64, slots: u32) -> u32
+fn put_start(ring: Ring, area: &mut [u8], revision: Revision, taken: u64, slots: u32) -> u32
     requires { ⌜ (Holds (length (now area)) ring) × (0 < ring .length) ⌝ }
-    ensures { λ r. ⌜ Put ring 0 (devRecord DEV-RESET allSlots ∷ map (devRecord DEV-CONF) (takenFrom taken 0 slots))
-        (now (area .entry)) (now (area .exit)) r ⌝ }
+    ensures { λ r. ⌜ Put ring 0 (recordsAtStart revision taken slots) (now (area .entry)) (now (area .exit)) r ⌝ }
 {
-    let first = records::put_record(ring, area, 0, dev_record(DEV_RESET, ALL_SLOTS));
-    put_slots(ring, area, first, taken, slots)
+    match revision {
+        Revision::One => 0,
+        Revision::Two => {
+            let first = records::put_record(ring, area, 0, dev_record(DEV_RESET, ALL_SLOTS));
+            put_slots(ring, area, first, taken, slots)
+        }
+    }
 }
 
 fn switched(device: Device, interrupts: bool, index: u32) -> Device
@@ -92,7 +108,8 @@ pub fn start(geometry: Geometry, device: Device, area: &mut [u8], interrupts: bo
 {
     let ring = geometry::ring_of(geometry);
     let slots = geometry::slot_count(geometry);
-    let count = taken_count(device.taken, slots) + 1;
+    let revision = device::revision_of(device.registers);
+    let count = start_count(revision, device.taken, slots);
     if count > ring.length - 1 {
         return Outcome {
             answer: NO_ROOM,
@@ -100,7 +117,7 @@ pub fn start(geometry: Geometry, device: Device, area: &mut [u8], interrupts: bo
         };
     }
     clear_pointers(area);
-    let index = put_start(ring, area, device.taken, slots);
+    let index = put_start(ring, area, revision, device.taken, slots);
     let after = switched(device, interrupts, index);
     Outcome {
         answer: DONE,

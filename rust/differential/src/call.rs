@@ -6,6 +6,7 @@ use thayarqo_model::access::Value;
 use thayarqo_model::closing::Closed;
 use thayarqo_model::guest::Copied;
 use thayarqo_model::packet::events_of;
+use thayarqo_model::revision1_reader::TakenRecord;
 use thayarqo_model::ring_event::{RingNumbers, Taken};
 
 #[derive(Clone, Debug)]
@@ -21,6 +22,7 @@ pub enum Call {
     Step,
     CopyOut { limit: u32, out_length: usize },
     Lookup { slot: u32, out_length: usize },
+    Revision1Step,
     Node { name: Vec<u8>, value: Vec<u8> },
     Close,
     RingEncode { event: RingNumbers, out_length: usize },
@@ -36,6 +38,7 @@ pub enum Answer {
     Value(Value),
     Told(Told),
     Copied(Copied),
+    Record(TakenRecord),
     Closed(Closed),
     Taken(Taken),
 }
@@ -68,6 +71,7 @@ impl Call {
             Call::Step => "step",
             Call::CopyOut { .. } => "copy out",
             Call::Lookup { .. } => "lookup",
+            Call::Revision1Step => "revision 1 step",
             Call::Node { .. } => "node",
             Call::Close => "close",
             Call::RingEncode { .. } => "ring encode",
@@ -86,6 +90,7 @@ impl Answer {
             Answer::Value(value) => value.answer,
             Answer::Told(told) => told.answer,
             Answer::Copied(copied) => copied.answer,
+            Answer::Record(record) => record.answer,
             Answer::Closed(closed) => closed.answer,
             Answer::Taken(taken) => taken.answer,
         }

@@ -1,28 +1,35 @@
 //! The library's structs from the model's, and back.
 
 use thayarqo_model::closing::Closed;
-use thayarqo_model::device::Device;
+use thayarqo_model::device::{Device, Position};
 use thayarqo_model::driver::Driver;
 use thayarqo_model::geometry::Geometry;
+use thayarqo_model::revision1_reader::TakenRecord;
 use thayarqo_model::ring_event::{RingNumbers, Taken};
 use thayarqo_model::settings::{Parameter, Settings};
 use thayarqo_sys as sys;
 
-/// The functions between a struct of the model and the library's: fields of the same type by name, then those that are parameters.
+/// The functions between a struct of the model and the library's: fields of the same type by name, then those that have functions of
+/// their own.
 macro_rules! both_ways {
-    ($to:ident, $of:ident: $model:ident, $library:ident { $($same:ident),* $(; $($parameter:ident),+)? }) => {
+    ($to:ident, $of:ident: $model:ident, $library:ident {
+        $($same:ident),* $(; $to_field:ident, $of_field:ident: $($field:ident),+)?
+    }) => {
         pub fn $to(value: &$model) -> sys::$library {
-            sys::$library { $($same: value.$same,)* $($($parameter: to_parameter(&value.$parameter)),+)? }
+            sys::$library { $($same: value.$same,)* $($($field: $to_field(&value.$field)),+)? }
         }
 
         pub fn $of(value: sys::$library) -> $model {
-            $model { $($same: value.$same,)* $($($parameter: parameter_of(value.$parameter)),+)? }
+            $model { $($same: value.$same,)* $($($field: $of_field(value.$field)),+)? }
         }
     };
 }
 
+both_ways!(to_position, position_of: Position, Position { x, y });
+
 both_ways!(to_device, device_of: Device, Device {
-    on, interrupts, isr, lost, client_rev_written, client_rev, write_index, current_slot, taken
+    on, interrupts, isr, client_rev_written, client_rev, acceleration, write_index, current_slot, lost, taken;
+    to_position, position_of: position
 });
 
 both_ways!(to_driver, driver_of: Driver, Driver { slot, held, overlong, spoiled, ignoring });
@@ -32,7 +39,7 @@ both_ways!(to_parameter, parameter_of: Parameter, Parameter { given, value });
 both_ways!(to_settings, settings_of: Settings, Settings {
     feature_disable_keyboard, feature_disable_pointer, feature_abs_pointer, feature_multi_touch, feature_raw_pointer,
     request_abs_pointer, request_multi_touch, request_raw_pointer;
-    width, height, contacts, touch_width, touch_height
+    to_parameter, parameter_of: width, height, contacts, touch_width, touch_height
 });
 
 both_ways!(to_ring_event, ring_event_of: RingNumbers, RingEvent {
@@ -67,5 +74,14 @@ pub fn taken_of(found: sys::RingFound) -> Taken {
     Taken {
         answer: found.answer,
         event: ring_event_of(found.event),
+    }
+}
+
+pub fn record_of(taken: sys::Taken) -> TakenRecord {
+    TakenRecord {
+        answer: taken.answer,
+        flags: taken.flags,
+        revision: taken.revision,
+        data: taken.data,
     }
 }

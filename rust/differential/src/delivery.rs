@@ -1,17 +1,19 @@
 //! What is promised of whole lists from a switch-on: the driver has received a front part of the accepted packets, each whole, in
 //! order, under its slot, and all of them right after it hears "nothing to read". A gap shows before an accepted packet exactly when
-//! one was refused for room since the one accepted before it. Some of the lists are the keyboard ring's: see `ring_order`.
+//! one was refused for room since the one accepted before it. In revision 1 the same holds of the groups that the accepted packets
+//! come to, without slots and gaps. Some of the lists are the keyboard ring's: see `ring_order`.
 
 use crate::allowed_geometry;
 use crate::call::{Answer, Call, Core};
-use crate::generate::{add, packet, plug_in, quiet_access, remove, Phase};
+use crate::generate::{add, own_step, packet, plug_in, quiet_access, remove, serve, Phase};
 use crate::logs::Logs;
 use crate::random::Random;
 use crate::ring_order;
 use crate::world::World;
 use std::fmt;
-use thayarqo_model::access::{CONTROL, INTERRUPTS};
-use thayarqo_model::answer::{BAD_INDEX, DONE, INVALID, NOTHING_TO_READ};
+use thayarqo_model::access::CONTROL;
+use thayarqo_model::answer::{BAD_INDEX, DONE, INVALID, NOTHING_TO_READ, NO_ROOM};
+use thayarqo_model::control::INTERRUPTS;
 use thayarqo_model::device::NO_SLOT;
 use thayarqo_model::geometry::{Geometry, PAGE};
 use thayarqo_model::packet::PACKET;
@@ -24,6 +26,8 @@ pub struct Delivery {
     pub lists: u64,
     pub packets: u64,
     pub gaps: u64,
+    /// Groups of revision 1.
+    pub groups: u64,
     /// How often the driver heard "nothing to read".
     pub dry: u64,
     pub ring_events: u64,
@@ -41,6 +45,7 @@ impl Delivery {
         let seen = [
             (self.packets, "no packet was received"),
             (self.gaps, "no gap was received"),
+            (self.groups, "no group of revision 1 was received"),
             (self.dry, "there was always something to read"),
             (self.ring_events, "no ring event was taken"),
         ];
@@ -56,6 +61,7 @@ impl fmt::Display for Delivery {
             lists,
             packets,
             gaps,
+            groups,
             dry,
             ring_events,
             broken,
@@ -63,8 +69,9 @@ impl fmt::Display for Delivery {
         writeln!(to, "seed {seed}: {calls} calls in {lists} lists")?;
         writeln!(
             to,
-            "  received {packets} packets and {gaps} gaps, nothing to read {dry} times; taken {ring_events} ring events"
+            "  received {packets} packets and {gaps} gaps, in revision 1 {groups} groups"
         )?;
+        writeln!(to, "  nothing to read {dry} times; taken {ring_events} ring events")?;
         match (broken, self.never_seen()) {
             (Some(why), _) => write!(to, "a promise is broken: {why}"),
             (None, Some(what)) => write!(to, "the lists show too little: {what}"),
@@ -114,7 +121,7 @@ fn run_device_list(
 ) -> Result<(), String> {
     let mut world = switched_off(random, geometry);
     switch_on(core, &mut world, random)?;
-    let mut logs = Logs::default();
+    let mut logs = Logs::starting(&world.device);
     let mut phase = Phase::Filling;
     let length = 100 + random.below(200) + geometry.ring_length() / 2;
     for place in 0.. {
@@ -122,11 +129,11 @@ fn run_device_list(
         // In the end there are steps alone, so that all that was sent is looked at.
         let call = match place < length {
             true => next(random, &world, phase),
-            false => Call::Step,
+            false => own_step(&world),
         };
         let answer = core.call(&mut world, &call);
         delivery.calls += 1;
-        check_answer(&call, &answer, geometry)?;
+        check_answer(&call, &answer, &world)?;
         logs.note(&call, &answer, world.packet.bytes())?;
         if place >= length && answer.number() == NOTHING_TO_READ {
             break;
@@ -137,6 +144,7 @@ fn run_device_list(
     }
     delivery.packets += logs.packets;
     delivery.gaps += logs.gaps;
+    delivery.groups += logs.groups;
     delivery.dry += logs.dry;
     Ok(())
 }
@@ -150,7 +158,7 @@ fn switched_off(random: &mut Random, geometry: Geometry) -> World {
     world.packet.load(&random.bytes(PACKET));
     plug_in(random, &mut world, geometry);
     let device = &mut world.device;
-    (device.client_rev_written, device.client_rev) = (true, 2);
+    serve(random, device);
     device.current_slot = match device.taken_slots().first() {
         Some(&slot) if random.once_in(2) => slot,
         _ => NO_SLOT,
@@ -177,9 +185,9 @@ fn next(random: &mut Random, world: &World, phase: Phase) -> Call {
     let busy = random.below(100) < 80;
     match phase {
         Phase::Filling if busy => packet(random, world),
-        Phase::Draining if busy => Call::Step,
+        Phase::Draining if busy => own_step(world),
         _ => match random.below(8) {
-            0..=2 => Call::Step,
+            0..=2 => own_step(world),
             3 => packet(random, world),
             4 => add(random, world),
             5 => remove(random, world),
@@ -188,15 +196,17 @@ fn next(random: &mut Random, world: &World, phase: Phase) -> Call {
     }
 }
 
-/// In such a list no index is impossible, and no state breaks a rule.
-fn check_answer(call: &Call, answer: &Answer, geometry: Geometry) -> Result<(), String> {
+/// In such a list no index is impossible, and no state breaks a rule. In revision 1 an add or a remove needs no room.
+fn check_answer(call: &Call, answer: &Answer, world: &World) -> Result<(), String> {
     let wrong_length = match call {
-        Call::Add { entry, .. } => entry.len() != geometry.entry_size as usize,
+        Call::Add { entry, .. } => entry.len() != world.geometry.entry_size as usize,
         Call::PutPacket { packet, .. } => !packet.len().is_multiple_of(8),
         _ => false,
     };
+    let needs_room = !world.device.is_revision1() || matches!(call, Call::PutPacket { .. });
     match answer.number() {
         BAD_INDEX => Err(format!("{call} answers 10")),
+        NO_ROOM if !needs_room => Err(format!("{call} answers 7")),
         INVALID if !wrong_length => Err(format!("{call} answers 1")),
         _ => Ok(()),
     }
@@ -209,18 +219,18 @@ mod tests {
     use thayarqo_model::Model;
 
     /// Does what the model does, but refuses some of the calls.
-    struct Refusing(fn(&Call) -> bool);
+    struct Refusing(fn(&World, &Call) -> bool);
 
     impl Core for Refusing {
         fn call(&self, world: &mut World, call: &Call) -> Answer {
-            match self.0(call) {
+            match self.0(world, call) {
                 true => Answer::Number(MALFORMED),
                 false => Model::default().call(world, call),
             }
         }
     }
 
-    fn outcome(refuses: fn(&Call) -> bool) -> Delivery {
+    fn outcome(refuses: fn(&World, &Call) -> bool) -> Delivery {
         let delivery = run(&Refusing(refuses), 1, 100_000);
         assert!(delivery.calls > 0);
         delivery
@@ -228,13 +238,23 @@ mod tests {
 
     #[test]
     fn refused_packets_break_no_promise_and_show_too_little() {
-        let delivery = outcome(|call| matches!(call, Call::PutPacket { .. }));
+        let delivery = outcome(|_, call| matches!(call, Call::PutPacket { .. }));
         assert!(delivery.broken.is_none() && !delivery.is_good(), "{delivery}");
     }
 
     #[test]
+    fn without_groups_of_revision_1_lists_show_too_little() {
+        let delivery = outcome(|world, call| world.device.is_revision1() && matches!(call, Call::PutPacket { .. }));
+        assert!(delivery.broken.is_none() && !delivery.is_good(), "{delivery}");
+        assert!(
+            delivery.packets > 0 && delivery.gaps > 0 && delivery.groups == 0,
+            "{delivery}"
+        );
+    }
+
+    #[test]
     fn refused_ring_events_break_a_promise() {
-        let delivery = outcome(|call| matches!(call, Call::RingPut { .. }));
+        let delivery = outcome(|_, call| matches!(call, Call::RingPut { .. }));
         assert!(delivery.broken.is_some() && !delivery.is_good(), "{delivery}");
     }
 
@@ -246,7 +266,7 @@ mod tests {
 
     #[test]
     fn the_model_delivers() {
-        let delivery = outcome(|_| false);
+        let delivery = outcome(|_, _| false);
         assert!(delivery.is_good(), "{delivery}");
     }
 }

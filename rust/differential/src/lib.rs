@@ -13,13 +13,14 @@ mod random;
 mod reference;
 mod report;
 mod ring_order;
+mod sender;
 mod world;
 
 pub use call::{Answer, Call, Core};
 pub use library::Library;
 pub use report::{Difference, Report};
 
-use generate::{begin_ring, other_geometry, plug_in, Action, List, Mood};
+use generate::{begin_ring, other_geometry, plug_in, serve, Action, List, Mood};
 use random::Random;
 use std::collections::VecDeque;
 use thayarqo_model::geometry::Geometry;
@@ -109,10 +110,9 @@ fn started(random: &mut Random, geometry: Geometry) -> World {
     begin_ring(random, &mut world);
     if geometry.is_allowed() && random.once_in(2) {
         plug_in(random, &mut world, geometry);
+        serve(random, &mut world.device);
         let index = random.below(geometry.ring_length());
-        let device = &mut world.device;
-        (device.on, device.client_rev_written, device.client_rev) = (true, true, 2);
-        device.write_index = index;
+        (world.device.on, world.device.write_index) = (true, index);
         let pointers = [index.to_le_bytes(), index.to_le_bytes()].concat();
         world.area.scribble(0, &pointers);
     }

@@ -2,8 +2,8 @@
 
 use crate::call::{Answer, Call, Core, Told};
 use crate::convert::{
-    closed_of, device_of, driver_of, settings_of, taken_of, to_device, to_driver, to_geometry, to_ring_event,
-    to_settings,
+    closed_of, device_of, driver_of, record_of, settings_of, taken_of, to_device, to_driver, to_geometry,
+    to_ring_event, to_settings,
 };
 use crate::world::World;
 use std::hint::black_box;
@@ -21,7 +21,9 @@ impl Core for Library {
             Call::FreshDriver => world.driver = driver_of(safe::fresh_driver()),
             Call::FreshSettings => world.settings = settings_of(safe::fresh_settings()),
             Call::Read { offset, width } => return read(world, *offset, *width),
-            Call::Step | Call::CopyOut { .. } | Call::Lookup { .. } => return guest_call(world, call),
+            Call::Step | Call::CopyOut { .. } | Call::Lookup { .. } | Call::Revision1Step => {
+                return guest_call(world, call);
+            }
             Call::Node { name, value } => return node(world, name, value),
             Call::Close => return Answer::Closed(closed_of(safe::close(to_settings(&world.settings)))),
             Call::RingEncode { .. } | Call::RingDecode { .. } | Call::RingPut { .. } | Call::RingTake { .. } => {
@@ -78,6 +80,7 @@ fn guest_call(world: &mut World, call: &Call) -> Answer {
             world.out.set_length(*out_length);
             Answer::Number(safe::lookup(geometry, world.page.bytes(), *slot, world.out.lend()))
         }
+        Call::Revision1Step => Answer::Record(record_of(safe::revision1_step(geometry, world.area.lend()))),
         _ => step(world, geometry),
     }
 }

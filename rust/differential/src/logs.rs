@@ -1,59 +1,54 @@
 //! What was sent and what was received, from arguments and answers alone.
 
 use crate::call::{Answer, Call};
+use crate::sender::{Entry, Sender};
 use std::collections::VecDeque;
+use thayarqo_model::access::ACCELERATION;
 use thayarqo_model::answer::{DONE, NOTHING_TO_READ, NO_ROOM};
+use thayarqo_model::device::Device;
 use thayarqo_model::packet::events_of;
 use thayarqo_model::records::Event;
+use thayarqo_model::revision1::FENCE;
+use thayarqo_model::revision1_reader::TakenRecord;
 use thayarqo_sys::{TOLD_GAP, TOLD_PACKET};
 
-/// An entry of either log.
-#[derive(Debug, PartialEq, Eq)]
-enum Entry {
-    Gap,
-    Packet { slot: u32, events: Vec<Event> },
-}
-
 /// The sent log without its front part that was received, and what was received as numbers.
-#[derive(Default)]
 pub struct Logs {
+    sender: Sender,
     waiting: VecDeque<Entry>,
-    refused_for_room: bool,
+    /// What was read in revision 1 since the last FENCE.
+    begun: Vec<Event>,
     pub packets: u64,
     pub gaps: u64,
+    pub groups: u64,
     pub dry: u64,
 }
 
 impl Logs {
+    /// From a switch-on that left this device.
+    pub fn starting(device: &Device) -> Logs {
+        Logs {
+            sender: Sender::starting(device),
+            waiting: VecDeque::new(),
+            begun: Vec::new(),
+            packets: 0,
+            gaps: 0,
+            groups: 0,
+            dry: 0,
+        }
+    }
+
     /// `held` is the buffer of the driver's packet after the call.
     pub fn note(&mut self, call: &Call, answer: &Answer, held: &[u8]) -> Result<(), String> {
-        match (call, answer) {
-            (Call::PutPacket { slot, packet }, Answer::Number(DONE)) => {
-                if self.refused_for_room {
-                    self.waiting.push_back(Entry::Gap);
-                }
-                self.refused_for_room = false;
-                self.waiting.push_back(Entry::Packet {
-                    slot: *slot,
-                    events: events_of(packet),
-                });
-                Ok(())
-            }
-            (Call::PutPacket { .. }, Answer::Number(NO_ROOM)) => {
-                self.refused_for_room = true;
-                Ok(())
-            }
-            (Call::Step, Answer::Told(told)) if told.answer == NOTHING_TO_READ => self.hear_nothing(),
-            (Call::Step, Answer::Told(told)) if told.what == TOLD_GAP => self.receive(Entry::Gap),
-            (Call::Step, Answer::Told(told)) if told.what == TOLD_PACKET => {
-                let events = held.get(..8 * told.count as usize);
-                self.receive(Entry::Packet {
-                    slot: told.slot,
-                    events: events_of(events.unwrap_or_default()),
-                })
-            }
-            _ => Ok(()),
+        match (call, answer.number()) {
+            (Call::PutPacket { slot, packet }, DONE) => return self.sender.send(*slot, packet, &mut self.waiting),
+            (Call::PutPacket { .. }, NO_ROOM) => self.sender.lose(),
+            (Call::Write { offset, value, .. }, DONE) if *offset == ACCELERATION => self.sender.accelerate(*value),
+            (Call::Step | Call::Revision1Step, NOTHING_TO_READ) => return self.hear_nothing(),
+            (Call::Step | Call::Revision1Step, DONE) => return self.hear(answer, held),
+            _ => {}
         }
+        Ok(())
     }
 
     fn hear_nothing(&mut self) -> Result<(), String> {
@@ -64,6 +59,30 @@ impl Logs {
         }
     }
 
+    fn hear(&mut self, answer: &Answer, held: &[u8]) -> Result<(), String> {
+        match answer {
+            Answer::Told(told) if told.what == TOLD_GAP => self.receive(Entry::Gap),
+            Answer::Told(told) if told.what == TOLD_PACKET => {
+                let events = held.get(..8 * told.count as usize);
+                self.receive(Entry::Packet {
+                    slot: told.slot,
+                    events: events_of(events.unwrap_or_default()),
+                })
+            }
+            Answer::Record(record) => self.hear_record(record),
+            _ => Ok(()),
+        }
+    }
+
+    fn hear_record(&mut self, record: &TakenRecord) -> Result<(), String> {
+        self.begun.push(Event::new(record.flags, record.revision, record.data));
+        if record.flags & FENCE == 0 {
+            return Ok(());
+        }
+        let group = std::mem::take(&mut self.begun);
+        self.receive(Entry::Group(group))
+    }
+
     fn receive(&mut self, entry: Entry) -> Result<(), String> {
         let sent = self.waiting.pop_front();
         if sent.as_ref() != Some(&entry) {
@@ -72,6 +91,7 @@ impl Logs {
         match entry {
             Entry::Gap => self.gaps += 1,
             Entry::Packet { .. } => self.packets += 1,
+            Entry::Group(_) => self.groups += 1,
         }
         Ok(())
     }

@@ -12,8 +12,9 @@ Makes random lists of calls on the proved library and on the model, and compares
 every byte of every buffer after each call.
 
   --delivery  hold the library instead to what it promises of whole lists from a switch-on: what was
-              sent is received, whole and in order, with a gap where a packet was refused for room. The
-              lists have to show packets, gaps, an empty ring and events of the keyboard ring
+              sent is received, whole and in order, with a gap where a packet was refused for room, and
+              for a guest of revision 1 without gaps. The lists have to show packets, gaps, groups of
+              revision 1, an empty ring and events of the keyboard ring
   --calls N   make at least N calls (default 1000000)
   --seed S    make the lists of this seed again (default: from the clock)
 

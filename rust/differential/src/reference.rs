@@ -14,7 +14,7 @@ impl Core for Model {
             Call::FreshDevice => world.device = Device::fresh(),
             Call::FreshDriver => world.driver = Driver::fresh(),
             Call::FreshSettings => world.settings = Settings::fresh(),
-            Call::Step | Call::CopyOut { .. } | Call::Lookup { .. } => {
+            Call::Step | Call::CopyOut { .. } | Call::Lookup { .. } | Call::Revision1Step => {
                 return guest_call(*self, world, call);
             }
             Call::Node { name, value } => {
@@ -69,6 +69,7 @@ fn guest_call(model: Model, world: &mut World, call: &Call) -> Answer {
             let (page, out) = (world.page.bytes(), world.out.lend());
             Answer::Number(model.lookup_copy(geometry, page, *slot, out))
         }
+        Call::Revision1Step => Answer::Record(model.revision1_step(geometry, world.area.lend())),
         _ => {
             let (area, packet) = (world.area.lend(), world.packet.lend());
             Answer::Told(numbers(model.step(&mut world.driver, geometry, area, packet)))

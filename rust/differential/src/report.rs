@@ -16,6 +16,8 @@ pub struct Report {
     pub answers: BTreeMap<&'static str, [u64; 13]>,
     /// How often a step told each of the header's kinds.
     pub told: [u64; 8],
+    /// How often a step of revision 1 took a record with just that flag, by its bit.
+    pub flags: [u64; 11],
     pub difference: Option<Difference>,
 }
 
@@ -37,6 +39,7 @@ impl Report {
             device_lists: 0,
             answers: BTreeMap::new(),
             told: [0; 8],
+            flags: [0; 11],
             difference: None,
         }
     }
@@ -47,10 +50,15 @@ impl Report {
         if let Some(count) = answers.get_mut(usize::from(answer.number())) {
             *count += 1;
         }
-        if let Answer::Told(told) = answer {
-            if let Some(count) = self.told.get_mut(usize::from(told.what)) {
-                *count += 1;
+        let kind = match answer {
+            Answer::Told(told) => self.told.get_mut(usize::from(told.what)),
+            Answer::Record(record) if record.flags.is_power_of_two() => {
+                self.flags.get_mut(record.flags.trailing_zeros() as usize)
             }
+            _ => None,
+        };
+        if let Some(count) = kind {
+            *count += 1;
         }
     }
 
@@ -91,6 +99,7 @@ impl fmt::Display for Report {
             writeln!(to)?;
         }
         writeln!(to, "  what steps told {:?}", self.told)?;
+        writeln!(to, "  flags in revision 1 {:?}", self.flags)?;
         match &self.difference {
             Some(difference) => write!(to, "{difference}"),
             None => write!(to, "no difference"),

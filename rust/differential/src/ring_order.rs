@@ -14,6 +14,7 @@ use thayarqo_model::Model;
 use thayarqo_sys::RING_UNKNOWN;
 
 const CALLS: u32 = 600;
+const RUN: u32 = 150;
 
 /// What a list came to.
 #[derive(Default)]
@@ -29,9 +30,9 @@ pub fn run_list(core: &dyn Core, random: &mut Random, geometry: Geometry) -> Res
     let mut waiting = VecDeque::new();
     let mut order = Order::default();
     for place in 0..CALLS {
-        // Runs of puts and of takes, so that the ring is full now, and empty then.
-        let puts = if place / 100 % 2 == 0 { 3 } else { 1 };
-        let call = match random.below(4) < puts {
+        // Runs of puts and of takes, so long that the ring is full now, and empty then.
+        let puts = if (place / RUN).is_multiple_of(2) { 7 } else { 1 };
+        let call = match random.below(8) < puts {
             true => Call::RingPut {
                 event: event_bytes(random),
                 limit,

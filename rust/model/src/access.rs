@@ -1,10 +1,10 @@
-//! Reads and writes of the registers and the pages, with switch-on.
+//! Reads and writes of the registers and the pages.
 
-use crate::answer::{BAD_ACCESS, DONE, INVALID, NO_REGISTER, NO_ROOM, READ_ONLY};
+use crate::answer::{BAD_ACCESS, DONE, INVALID, NO_REGISTER, READ_ONLY};
 use crate::bytes::{put_word, word};
-use crate::device::{Device, NO_SLOT};
+use crate::device::Device;
 use crate::geometry::{Geometry, PAGE};
-use crate::records::{put_records, Event, ALL_SLOTS, DEV_CONF, DEV_RESET, EV_DEV, READ_POINTER, WRITE_POINTER};
+use crate::records::READ_POINTER;
 use crate::{Fault, Model};
 
 pub const MAGIC: u64 = 0;
@@ -17,10 +17,6 @@ pub const ISR: u64 = 0x110;
 pub const CONF_SIZE: u64 = 0x114;
 pub const CLIENT_REV: u64 = 0x118;
 pub const READ_PTR: u64 = 0x1000;
-
-/// Bits of CONTROL.
-pub const ENABLE: u32 = 1;
-pub const INTERRUPTS: u32 = 2;
 
 /// A read's answer and its value, 0 where it was refused.
 #[derive(Clone, Copy, Debug, PartialEq, Eq)]
@@ -73,7 +69,7 @@ impl Model {
         }
         match offset {
             CONTROL => return self.write_control(device, geometry, area, value),
-            ACCELERATION => {}
+            ACCELERATION => self.write_acceleration(device, value),
             ISR => device.isr &= self.has(Fault::IsrNotCleared),
             CLIENT_REV => self.write_client_rev(device, value),
             READ_PTR if self.has(Fault::ReadPointerMasked) => {
@@ -90,22 +86,22 @@ impl Model {
         let interrupts_bit = 1 + u32::from(self.has(Fault::InterruptsReadAtBit2));
         Some(match offset {
             MAGIC => 0x584D_4F55,
-            REV if device.client_rev_written => 2,
-            REV => 1,
+            REV => self.revision_number(device),
             CONTROL => u32::from(device.on) + (u32::from(device.interrupts) << interrupts_bit),
             EVENT_SIZE => geometry.record_size,
             NPAGES => geometry.pages,
+            ACCELERATION if self.has_acceleration(device) => u32::from(device.acceleration),
             ACCELERATION => 0,
             ISR => u32::from(device.isr),
             CONF_SIZE => geometry.entry_size,
-            CLIENT_REV => device.client_rev,
+            CLIENT_REV => u32::from(device.client_rev),
             _ => return None,
         })
     }
 
     /// 1, 2, 4: what reads and writes refuse alike.
     fn refusal(self, device: &Device, geometry: Geometry, area: &[u8], page: &[u8], offset: u64, width: u32) -> u8 {
-        if device.is_invalid(geometry, area, page) {
+        if self.is_invalid(device, geometry, area, page) {
             return INVALID;
         }
         if width != 4 || !offset.is_multiple_of(4) || offset >= geometry.bar_length() {
@@ -115,47 +111,6 @@ impl Model {
             return NO_REGISTER;
         }
         DONE
-    }
-
-    /// The pointers cleared, DEV_RESET of all, DEV_CONF of each taken slot.
-    fn switch_on(self, device: &mut Device, geometry: Geometry, area: &mut [u8]) -> u8 {
-        let mut records = vec![Event::new(EV_DEV, DEV_RESET, ALL_SLOTS)];
-        for slot in device.taken_slots() {
-            records.push(Event::new(EV_DEV, DEV_CONF, slot));
-        }
-        if records.len() > geometry.ring_length() as usize - 1 {
-            return NO_ROOM;
-        }
-        device.on = true;
-        device.write_index = 0;
-        device.current_slot = NO_SLOT;
-        device.lost &= self.has(Fault::LostMarkAfterSwitchOn);
-        put_word(area, READ_POINTER, 0);
-        put_word(area, WRITE_POINTER, 0);
-        put_records(device, geometry, area, &records);
-        DONE
-    }
-
-    /// Bit 0 stays 0 unless CLIENT_REV is 2.
-    fn write_control(self, device: &mut Device, geometry: Geometry, area: &mut [u8], value: u32) -> u8 {
-        let on = value & ENABLE != 0 && device.client_rev == 2;
-        if on && !device.on {
-            let answer = self.switch_on(device, geometry, area);
-            if answer != DONE {
-                return answer;
-            }
-        }
-        device.on = on;
-        device.interrupts = value & INTERRUPTS != 0;
-        DONE
-    }
-
-    /// Ignored while on.
-    fn write_client_rev(self, device: &mut Device, value: u32) {
-        if !device.on || self.has(Fault::ClientRevWritableWhileOn) {
-            device.client_rev_written = true;
-            device.client_rev = if value == 2 { 2 } else { 0 };
-        }
     }
 }
 
@@ -220,37 +175,5 @@ mod tests {
         assert_eq!(machine.write(0xFFC, 1), NO_REGISTER);
         assert_eq!(machine.write(READ_PTR, u32::MAX), DONE);
         assert_eq!(machine.read(READ_PTR), (DONE, u32::MAX));
-    }
-
-    #[test]
-    fn client_rev_decides_whether_the_device_goes_on() {
-        let mut machine = Machine::new();
-        assert_eq!(machine.read(REV), (DONE, 1));
-        machine.write(CONTROL, 3);
-        assert_eq!(machine.read(CONTROL), (DONE, 2));
-        machine.write(CLIENT_REV, 7);
-        assert_eq!(machine.read(CLIENT_REV), (DONE, 0));
-        assert_eq!(machine.read(REV), (DONE, 2));
-        machine.write(CLIENT_REV, 2);
-        machine.write(CONTROL, 0xFFFF_FFFD);
-        assert_eq!(machine.read(CONTROL), (DONE, 1));
-        machine.write(CLIENT_REV, 0);
-        assert_eq!(machine.read(CLIENT_REV), (DONE, 2));
-    }
-
-    #[test]
-    fn switch_on_with_slot_4_taken_puts_two_records() {
-        let mut machine = Machine::new();
-        machine.device.taken = 1 << 4;
-        machine.device.lost = true;
-        machine.write(CLIENT_REV, 2);
-        machine.write(CONTROL, 1);
-        assert_eq!(machine.device.write_index, 2);
-        assert!(!machine.device.lost);
-        assert_eq!(machine.read(READ_PTR), (DONE, 0));
-        assert_eq!(machine.read(READ_PTR + 4), (DONE, 2));
-        assert_eq!(Event::read(&machine.area, 8), Event::new(6, 3, 0xFFFF));
-        assert_eq!(Event::read(&machine.area, 16), Event::new(6, 2, 4));
-        assert_eq!(machine.area[24], 0xEE);
     }
 }

@@ -1,13 +1,13 @@
 //! The guest's driver: what each record does to its state.
 
-use crate::answer::{BAD_INDEX, DONE, INVALID, MALFORMED, NOTHING_TO_READ};
-use crate::bytes::{put_word, word};
+use crate::answer::{DONE, INVALID, MALFORMED};
+use crate::bytes::put_word;
 use crate::device::NO_SLOT;
 use crate::geometry::Geometry;
 use crate::packet::{MOST_EVENTS, PACKET};
 use crate::records::{
-    Event, ALL_SLOTS, DEV_CONF, DEV_RESET, DEV_SET, EV_DEV, EV_SYN, KNOWN_RECORD, READ_POINTER, SYN_DROPPED,
-    SYN_REPORT, WRITE_POINTER,
+    unread_pointers, Event, ALL_SLOTS, DEV_CONF, DEV_RESET, DEV_SET, EV_DEV, EV_SYN, KNOWN_RECORD, READ_POINTER,
+    SYN_DROPPED, SYN_REPORT,
 };
 use crate::{Fault, Model};
 
@@ -142,18 +142,14 @@ impl Model {
         if !driver.is_sound(geometry) {
             return Told::Refused(INVALID);
         }
-        let (read, write) = (word(area, READ_POINTER), word(area, WRITE_POINTER));
-        let length = geometry.ring_length();
-        if read >= length || write >= length {
-            return Told::Refused(BAD_INDEX);
-        }
-        if read == write {
-            return Told::Refused(NOTHING_TO_READ);
-        }
+        let (read, _) = match unread_pointers(geometry, area) {
+            Ok(pointers) => pointers,
+            Err(answer) => return Told::Refused(answer),
+        };
         let record = Event::read(area, geometry.record_at(read));
         let told = self.receive(driver, record, geometry.slots(), packet);
         if told.answer() == DONE || !self.has(Fault::MalformedRecordKept) {
-            put_word(area, READ_POINTER, (read + 1) % length);
+            put_word(area, READ_POINTER, (read + 1) % geometry.ring_length());
         }
         told
     }
@@ -190,6 +186,7 @@ impl Told {
 #[cfg(test)]
 mod tests {
     use super::*;
+    use crate::answer::NOTHING_TO_READ;
 
     const SLOTS: u32 = 16;
     const REPORT: Event = Event::new(EV_SYN, SYN_REPORT, 0);

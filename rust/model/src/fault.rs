@@ -45,6 +45,22 @@ faults! {
     /// A switch-on keeps the lost mark.
     LostMarkAfterSwitchOn,
 
+    // The revision and its registers
+    /// A device goes on after a rejected CLIENT_REV.
+    RejectedSwitchedOn,
+    /// CLIENT_REV 1 is rejected.
+    ClientRev1Rejected,
+    /// REV reads 2 where CLIENT_REV is 1.
+    RevOf2AtClientRev1,
+    /// ACCELERATION can be 21.
+    AccelerationOf21,
+    /// Of what is written to ACCELERATION the low 16 bits count.
+    AccelerationModulo65536,
+    /// ACCELERATION is read and written in revision 2.
+    AccelerationInRevision2,
+    /// A state may have ACCELERATION 0.
+    AccelerationOfZero,
+
     // Packets
     /// The number of events is tested before the slot.
     MalformedBeforeSlot,
@@ -60,6 +76,40 @@ faults! {
     GapShownTwice,
     /// ISR is set while interrupts are off.
     IsrWithoutInterrupts,
+
+    // Packets for revision 1
+    /// Scaled motion is rounded down.
+    MotionRoundedDown,
+    /// Scaled motion may be 32768.
+    MotionOf32768,
+    /// The wheel is scaled.
+    WheelScaled,
+    /// An absolute coordinate may be 65536.
+    CoordinateOf65536,
+    /// An absolute coordinate that is missing is 0.
+    MissingAxisAsZero,
+    /// A switch-on keeps the last position.
+    PositionAfterSwitchOn,
+    /// An axis or the wheel may come twice.
+    AxisRepeated,
+    /// REL_HWHEEL has a form.
+    HwheelAccepted,
+    /// Buttons come before motion.
+    ButtonsBeforeMotion,
+    /// The FENCE comes before the other records.
+    FenceFirst,
+    /// No FENCE is put.
+    FenceMissing,
+    /// The lost mark is shown in revision 1.
+    GapInRevision1,
+    /// A packet of revision 1 clears the lost mark.
+    LostMarkClearedInRevision1,
+    /// A packet of revision 1 makes its slot the current one.
+    CurrentSlotInRevision1,
+    /// A switch-on puts records in revision 1.
+    SwitchOnToldInRevision1,
+    /// An add and a remove put a record in revision 1.
+    PlugToldInRevision1,
 
     // Add and remove
     /// Of an entry the first 68 bytes alone are stored.
@@ -78,6 +128,8 @@ faults! {
     MalformedRecordKept,
     /// Copy-out answers its limit as the count.
     CopyOutCountsLimit,
+    /// The reader of revision 1 refuses a record whose revision isn't 1.
+    OtherRevisionRefused,
 
     // The keyboard ring
     /// An event's place is its index modulo 50.

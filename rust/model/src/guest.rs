@@ -1,10 +1,10 @@
 //! The guest's other calls: records copied out, an entry looked up.
 
-use crate::answer::{BAD_INDEX, BAD_SLOT, DONE, INVALID, NOTHING_TO_READ};
-use crate::bytes::{put_word, word};
+use crate::answer::{BAD_SLOT, DONE, INVALID};
+use crate::bytes::put_word;
 use crate::entries::{is_present, KNOWN_ENTRY};
 use crate::geometry::{Geometry, PAGE};
-use crate::records::{KNOWN_RECORD, READ_POINTER, WRITE_POINTER};
+use crate::records::{unread_pointers, KNOWN_RECORD, READ_POINTER};
 use crate::{Fault, Model};
 
 /// Copy-out's answer and the number of records, 0 where it was refused.
@@ -21,14 +21,10 @@ impl Model {
         if !geometry.is_allowed() || area.len() != geometry.area_length() {
             return refused(INVALID);
         }
-        let (read, write) = (word(area, READ_POINTER), word(area, WRITE_POINTER));
-        let length = geometry.ring_length();
-        if read >= length || write >= length {
-            return refused(BAD_INDEX);
-        }
-        if read == write {
-            return refused(NOTHING_TO_READ);
-        }
+        let (read, write) = match unread_pointers(geometry, area) {
+            Ok(pointers) => pointers,
+            Err(answer) => return refused(answer),
+        };
         let unread = self.unread(geometry, read, write);
         let mut places = out.chunks_exact_mut(KNOWN_RECORD);
         let mut count = 0;
@@ -38,7 +34,7 @@ impl Model {
             let at = geometry.record_at(index);
             place.copy_from_slice(&area[at..at + KNOWN_RECORD]);
             count += 1;
-            index = (index + 1) % length;
+            index = (index + 1) % geometry.ring_length();
         }
         put_word(area, READ_POINTER, index);
         if self.has(Fault::CopyOutCountsLimit) {
@@ -84,6 +80,9 @@ impl Model {
 #[cfg(test)]
 mod tests {
     use super::*;
+    use crate::answer::{BAD_INDEX, NOTHING_TO_READ};
+    use crate::bytes::word;
+    use crate::records::WRITE_POINTER;
 
     const GEOMETRY: Geometry = Geometry {
         pages: 1,

@@ -8,7 +8,7 @@ use crate::records::{put_records, Event, DEV_CONF, DEV_RESET, EV_DEV};
 use crate::{Fault, Model};
 
 impl Model {
-    /// Refusals in order: 1, 6, 9, and 10, 7 while on.
+    /// Refusals in order: 1, 6, 9, and 10, 7 while on in revision 2.
     pub fn add(
         self,
         device: &mut Device,
@@ -18,7 +18,7 @@ impl Model {
         slot: u32,
         entry: &[u8],
     ) -> u8 {
-        if device.is_invalid(geometry, area, page) || entry.len() != geometry.entry_size as usize {
+        if self.is_invalid(device, geometry, area, page) || entry.len() != geometry.entry_size as usize {
             return INVALID;
         }
         if slot >= geometry.slots() || device.has_taken(slot) {
@@ -39,9 +39,9 @@ impl Model {
         refusal
     }
 
-    /// Refusals in order: 1, 6, and 10, 7 while on.
+    /// Refusals in order: 1, 6, and 10, 7 while on in revision 2.
     pub fn remove(self, device: &mut Device, geometry: Geometry, area: &mut [u8], page: &mut [u8], slot: u32) -> u8 {
-        if device.is_invalid(geometry, area, page) {
+        if self.is_invalid(device, geometry, area, page) {
             return INVALID;
         }
         if !device.has_taken(slot) {
@@ -58,9 +58,10 @@ impl Model {
         refusal
     }
 
-    /// Puts one record while on; while off the guest isn't told.
+    /// Puts one record while on. While off the guest isn't told, and in revision 1 it never is.
     fn tell(self, device: &mut Device, geometry: Geometry, area: &mut [u8], record: Event) -> u8 {
-        if !device.on {
+        let is_silent = device.is_revision1() && !self.has(Fault::PlugToldInRevision1);
+        if !device.on || is_silent {
             return DONE;
         }
         let refusal = self.room_refusal(device, geometry, area, 1);
@@ -139,5 +140,25 @@ mod tests {
         put_word(&mut area, 0, 511);
         assert_eq!(add(&mut device, &mut area, 4, &entry()), BAD_INDEX);
         assert_eq!(device.taken, 0);
+    }
+
+    #[test]
+    fn in_revision_1_the_guest_is_not_told_whatever_its_pointer() {
+        for (client_rev_written, client_rev) in [(false, 0), (true, 1)] {
+            let mut device = Device {
+                client_rev_written,
+                client_rev,
+                write_index: 510,
+                ..on()
+            };
+            for read in [0, 511] {
+                let mut area = [0; PAGE];
+                put_word(&mut area, 0, read);
+                let before = area;
+                assert_eq!(add(&mut device, &mut area, 4, &entry()), DONE);
+                let answer = Model::default().remove(&mut device, GEOMETRY, &mut area, &mut [0; PAGE], 4);
+                assert_eq!((answer, device.write_index, area), (DONE, 510, before));
+            }
+        }
     }
 }

@@ -1,4 +1,4 @@
-//! An independent model of the XENMOU2 device, its guest's driver, the Xen keyboard ring and its node settings.
+//! An independent model of the XENMOU2 device, the drivers of its guests in both revisions, the Xen keyboard ring and its node settings.
 //!
 //! It is written from the papers alone, so that the proved library can be compared with a second reading of them. It is straight and
 //! slow: every rule stands where a reader of the papers looks for it. Any state, any length and any number gets an answer.
@@ -8,6 +8,7 @@ pub mod access;
 pub mod answer;
 pub mod bytes;
 pub mod closing;
+pub mod control;
 pub mod device;
 pub mod driver;
 pub mod entries;
@@ -17,6 +18,8 @@ pub mod guest;
 pub mod hotplug;
 pub mod packet;
 pub mod records;
+pub mod revision1;
+pub mod revision1_reader;
 pub mod ring;
 pub mod ring_event;
 pub mod settings;

@@ -1,6 +1,6 @@
 //! Event records in the event area: one read, some put, the two pointers, room.
 
-use crate::answer::{BAD_INDEX, DONE, NO_ROOM};
+use crate::answer::{BAD_INDEX, DONE, NOTHING_TO_READ, NO_ROOM};
 use crate::bytes::{half_word, put_half_word, put_word, word};
 use crate::device::Device;
 use crate::geometry::Geometry;
@@ -60,6 +60,19 @@ pub(crate) fn put_records(device: &mut Device, geometry: Geometry, area: &mut [u
         device.write_index = (device.write_index + 1) % geometry.ring_length();
         put_word(area, WRITE_POINTER, device.write_index);
     }
+}
+
+/// The read and the write pointer, for whoever reads. 10 where one of them is impossible, 11 where there is nothing between them.
+pub(crate) fn unread_pointers(geometry: Geometry, area: &[u8]) -> Result<(u32, u32), u8> {
+    let (read, write) = (word(area, READ_POINTER), word(area, WRITE_POINTER));
+    let length = geometry.ring_length();
+    if read >= length || write >= length {
+        return Err(BAD_INDEX);
+    }
+    if read == write {
+        return Err(NOTHING_TO_READ);
+    }
+    Ok((read, write))
 }
 
 impl Model {

@@ -1,5 +1,5 @@
 //! What a line of a script asks for.
-use thayarqo::{Entry, Event};
+use thayarqo::{Entry, Event, Revision};
 
 /// One of the two parts of the guest's memory.
 #[derive(Clone, Copy, Debug, PartialEq, Eq)]
@@ -23,6 +23,7 @@ pub enum Command {
         slot: u32,
     },
     On {
+        revision: Revision,
         interrupts: bool,
     },
     Off,

@@ -2,7 +2,7 @@
 use crate::command::{Command, Memory};
 use crate::names;
 use crate::words::{number, value, Parsed, Words};
-use thayarqo::{Entry, Event};
+use thayarqo::{Entry, Event, Revision};
 
 /// A command of the language.
 pub struct Form {
@@ -36,8 +36,8 @@ pub const FORMS: [Form; 15] = [
     },
     Form {
         name: "on",
-        arguments: "[interrupts]",
-        says: "the guest writes 2 to CLIENT_REV and switches the device on in CONTROL, on request with interrupts",
+        arguments: "[revision 1|2] [interrupts]",
+        says: "the guest switches the device on in CONTROL for its revision, else 2, on request with interrupts",
         read: on,
     },
     Form {
@@ -73,7 +73,7 @@ pub const FORMS: [Form; 15] = [
     Form {
         name: "records",
         arguments: "",
-        says: "shows the unread records, and leaves them there: index, type, code and value",
+        says: "shows the unread records, and leaves them there: index, type, code and value, or flag and data",
         read: |_| Ok(Command::Records),
     },
     Form {
@@ -149,10 +149,25 @@ fn add(words: &mut Words) -> Parsed<Command> {
 }
 
 fn on(words: &mut Words) -> Parsed<Command> {
-    match words.optional() {
-        None => Ok(Command::On { interrupts: false }),
-        Some("interrupts") => Ok(Command::On { interrupts: true }),
-        Some(word) => Err(format!("{word} isn't the word interrupts")),
+    let mut word = words.optional();
+    let mut revision = Revision::Two;
+    if word == Some("revision") {
+        revision = self::revision(words.word("1 or 2")?)?;
+        word = words.optional();
+    }
+    let interrupts = match word {
+        None => false,
+        Some("interrupts") => true,
+        Some(word) => return Err(format!("{word} isn't the word interrupts")),
+    };
+    Ok(Command::On { revision, interrupts })
+}
+
+fn revision(text: &str) -> Parsed<Revision> {
+    match text {
+        "1" => Ok(Revision::One),
+        "2" => Ok(Revision::Two),
+        text => Err(format!("{text} is no revision")),
     }
 }
 

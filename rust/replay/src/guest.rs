@@ -1,6 +1,6 @@
 //! What a guest receives, in words.
 use thayarqo::codes::{code_name, type_name, EV_ABS, EV_KEY, EV_REL};
-use thayarqo::{Entry, Event, Packet, Source, Told};
+use thayarqo::{Entry, Event, Group, Packet, Revision1Record, Source, Told};
 
 /// None where a step tells of nothing.
 pub fn told(told: &Told) -> Option<String> {
@@ -15,6 +15,11 @@ pub fn told(told: &Told) -> Option<String> {
         Told::ResetAll => "all slots free".into(),
     };
     Some(line(&words))
+}
+
+/// What a guest of revision 1 receives.
+pub fn group(group: &Group) -> String {
+    line(&format!("group: {group}"))
 }
 
 /// A line below a command about what reaches the guest.
@@ -47,6 +52,11 @@ pub fn row(index: u32, record: Event) -> String {
     format!("{index:>4}  {kind_name:<6}  {code_name:<18}  {}", record.signed())
 }
 
+/// The row of a record of revision 1.
+pub fn revision1_row(index: u32, record: Revision1Record) -> String {
+    format!("{index:>4}  {record}")
+}
+
 /// An entry's name and offer.
 pub fn entry(entry: &Entry) -> String {
     let name = entry.name().escape_ascii();
@@ -69,6 +79,7 @@ fn offered(entry: &Entry, kind: u16) -> impl Iterator<Item = String> + '_ {
 mod tests {
     use super::*;
     use thayarqo::codes::{ABS_X, BTN_TOUCH};
+    use thayarqo::flags::VWHEEL;
     use thayarqo::Answer;
 
     #[test]
@@ -93,6 +104,17 @@ mod tests {
         };
         assert_eq!(row(7, record), "   7  9       65535               -1");
         assert_eq!(row(4095, Event::abs(ABS_X, 3)), "4095  EV_ABS  ABS_X               3");
+    }
+
+    #[test]
+    fn records_of_revision_1_have_flags() {
+        let record = |flags, data| Revision1Record {
+            flags,
+            revision: 1,
+            data,
+        };
+        assert_eq!(revision1_row(7, record(VWHEEL, u32::MAX)), "   7  VWHEEL -1");
+        assert_eq!(revision1_row(510, record(0x801, 2)), " 510  flags 0x801 data 0x2");
     }
 
     #[test]

@@ -10,8 +10,11 @@ Runs a script of calls of a host and its guest on the proved library, from a fil
 input, and tells the answer of each and what the guest receives.
 
 A line of a script is a command; # begins a comment. Empty lines and lines of comment are shown as they
-are. A script that names no geometry has 1 8 68. When the device is switched on, the guest's driver
-begins afresh.
+are. A script that names no geometry has 1 8 68.
+
+When the device is switched on, the guest begins afresh with the driver of the revision that the device
+serves. For revision 2 it writes 2 to CLIENT_REV before; for revision 1 it leaves CLIENT_REV unset, or
+writes 1 where something else was written.
 ";
 
 const NUMBERS: &str = "\

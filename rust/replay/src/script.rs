@@ -71,6 +71,44 @@ mod tests {
     }
 
     #[test]
+    fn a_guest_of_revision_1_receives_groups() {
+        let (shown, _) = played(
+            b"add 4 mouse REL BTN_LEFT\non revision 1\nread REV\npacket 4 BTN_LEFT 1 REL_X 10 REL_Y -3\nrecords\ndrain\n",
+        );
+        let lines = [
+            "add 4 mouse REL BTN_LEFT: done",
+            "on revision 1: done",
+            "read REV: done, 1 (0x1)",
+            "packet 4 BTN_LEFT 1 REL_X 10 REL_Y -3: done",
+            "records: done, 3 records",
+            "       0  RELATIVE 10 -3",
+            "       1  LEFT_BUTTON_DOWN",
+            "       2  FENCE",
+            "drain: done, 3 records read",
+            "    guest: group: RELATIVE 10 -3, LEFT_BUTTON_DOWN, FENCE",
+        ];
+        assert_eq!(shown.lines().collect::<Vec<_>>(), lines);
+    }
+
+    #[test]
+    fn the_revision_of_a_guest_is_that_of_its_switch_on() {
+        let read = |script: &str, offset| {
+            let (shown, _) = played(format!("{script}\nread {offset}").as_bytes());
+            shown.lines().last().map(str::to_string)
+        };
+        let reads = |offset, number| Some(format!("read {offset}: done, {number} (0x{number})"));
+        for (script, client_rev) in [
+            ("on revision 1", 0),
+            ("on", 2),
+            ("on\noff\non revision 1", 1),
+            ("on revision 1\noff\non revision 2", 2),
+            ("on\non revision 1", 2),
+        ] {
+            assert_eq!(read(script, "CLIENT_REV"), reads("CLIENT_REV", client_rev), "{script}");
+        }
+    }
+
+    #[test]
     fn any_read_pointer_is_answered() {
         for command in ["records", "copy 5", "step", "drain"] {
             let (shown, _) = played(format!("poke area 0 255 255 255 255\n{command}\n").as_bytes());

@@ -1,10 +1,12 @@
-//! A device and its guest's driver, and what the commands do with them.
+//! A device and its guest's drivers, and what the commands do with them.
 use crate::command::{Command, Memory};
 use crate::guest;
 use crate::outcome::{counted, refused, Outcome};
 use crate::words::Parsed;
 use thayarqo::register::{CLIENT_REV, CONTROL, CONTROL_INTERRUPTS, CONTROL_ON};
-use thayarqo::{Answer, Device, Driver, Event, Geometry, Refusal, EVENT_LENGTH};
+use thayarqo::{
+    Answer, Device, Driver, Event, Geometry, Refusal, Revision, Revision1Driver, Revision1Record, EVENT_LENGTH,
+};
 
 /// Bytes of an access to the BAR that isn't refused.
 const WORD: u32 = 4;
@@ -12,6 +14,9 @@ const WORD: u32 = 4;
 pub struct World {
     device: Device,
     driver: Driver,
+    revision1_driver: Revision1Driver,
+    /// Which of the drivers the guest has, since the last switch-on.
+    revision: Revision,
 }
 
 impl World {
@@ -19,6 +24,8 @@ impl World {
         World {
             device: Device::new(geometry),
             driver: Driver::new(geometry),
+            revision1_driver: Revision1Driver::new(geometry),
+            revision: Revision::Two,
         }
     }
 
@@ -32,7 +39,7 @@ impl World {
             } => self.begin(Geometry::new(*pages, *record_size, *entry_size)),
             Command::Add { slot, entry } => Outcome::of(self.device.add(*slot, entry)),
             Command::Remove { slot } => Outcome::of(self.device.remove(*slot)),
-            Command::On { interrupts } => Outcome::of(self.switch_on(*interrupts)),
+            Command::On { revision, interrupts } => Outcome::of(self.switch_on(*revision, *interrupts)),
             Command::Off => Outcome::of(self.write(CONTROL, 0, WORD)),
             Command::Packet { slot, events } => Outcome::of(self.send(*slot, events)),
             Command::Step => self.step(),
@@ -58,18 +65,26 @@ impl World {
         })
     }
 
-    fn switch_on(&mut self, interrupts: bool) -> Answer<()> {
-        self.write(CLIENT_REV, 2, WORD)?;
+    /// A guest of revision 1 doesn't know CLIENT_REV. Only where another guest has written there, 1 has to be written first.
+    fn switch_on(&mut self, revision: Revision, interrupts: bool) -> Answer<()> {
+        match revision {
+            Revision::One if self.device.revision() == Some(Revision::One) => {}
+            Revision::One => self.write(CLIENT_REV, 1, WORD)?,
+            Revision::Two => self.write(CLIENT_REV, 2, WORD)?,
+        }
         let wanted = if interrupts { CONTROL_INTERRUPTS } else { 0 };
         self.write(CONTROL, CONTROL_ON | wanted, WORD)
     }
 
-    /// A guest that switches the device on begins to read with a fresh driver.
+    /// A guest that switches the device on begins to read with a fresh driver, that of the revision which the device serves.
     fn write(&mut self, offset: u64, value: u32, width: u32) -> Answer<()> {
         let was_on = self.device.is_on();
         self.device.write(offset, width, value)?;
         if self.device.is_on() && !was_on {
-            self.driver = Driver::new(self.device.geometry());
+            let geometry = self.device.geometry();
+            self.driver = Driver::new(geometry);
+            self.revision1_driver = Revision1Driver::new(geometry);
+            self.revision = self.device.revision().expect("a device that is on serves one");
         }
         Ok(())
     }
@@ -85,10 +100,19 @@ impl World {
         self.device.put_packet_bytes(slot, &bytes)
     }
 
+    /// The guest reads a record. Hands back the line of what it is told by it, if anything.
+    fn read_record(&mut self) -> Answer<Option<String>> {
+        let area = self.device.area_mut();
+        match self.revision {
+            Revision::One => Ok(self.revision1_driver.receive(area)?.as_ref().map(guest::group)),
+            Revision::Two => Ok(guest::told(&self.driver.step(area)?)),
+        }
+    }
+
     fn step(&mut self) -> Outcome {
-        let told = self.driver.step(self.device.area_mut());
-        let mut outcome = Outcome::of(told.map(|_| ()));
-        if let Some(line) = told.ok().as_ref().and_then(guest::told) {
+        let told = self.read_record();
+        let mut outcome = Outcome::of(told.as_ref().map(|_| ()).map_err(|refusal| *refusal));
+        if let Ok(Some(line)) = told {
             outcome.show(line);
         }
         outcome
@@ -99,8 +123,8 @@ impl World {
         let mut lines = Vec::new();
         let mut records = 0;
         let answer = loop {
-            match self.driver.step(self.device.area_mut()) {
-                Ok(told) => lines.extend(guest::told(&told)),
+            match self.read_record() {
+                Ok(told) => lines.extend(told),
                 Err(Refusal::Malformed) => lines.push(guest::line(&refused(Refusal::Malformed))),
                 Err(Refusal::NothingToRead) => break Ok(records),
                 Err(refusal) => break Err(refusal),
@@ -114,13 +138,19 @@ impl World {
 
     fn copy_out(&mut self, limit: u32) -> Outcome {
         let first = self.device.read_pointer();
-        copy_rows(&self.driver, self.device.area_mut(), first, limit)
+        copy_rows(&self.driver, self.revision, self.device.area_mut(), first, limit)
     }
 
     /// A copy-out from a copy of the area, so that nothing is consumed.
     fn records(&self) -> Outcome {
         let mut area = self.device.area().to_vec();
-        copy_rows(&self.driver, &mut area, self.device.read_pointer(), u32::MAX)
+        copy_rows(
+            &self.driver,
+            self.revision,
+            &mut area,
+            self.device.read_pointer(),
+            u32::MAX,
+        )
     }
 
     fn look_up(&self, slot: u32) -> Outcome {
@@ -155,15 +185,19 @@ impl World {
     }
 }
 
-/// Copies records out of an area and shows a row for each.
-fn copy_rows(driver: &Driver, area: &mut [u8], first: u32, limit: u32) -> Outcome {
+/// Copies records out of an area and shows a row for each, as a guest of that revision reads it.
+fn copy_rows(driver: &Driver, revision: Revision, area: &mut [u8], first: u32, limit: u32) -> Outcome {
     let ring_length = driver.geometry().ring_length();
     let mut out = vec![0; EVENT_LENGTH * limit.min(ring_length) as usize];
     let copied = driver.copy_out(area, limit, &mut out);
     let mut outcome = Outcome::with_detail(copied, |count| counted(*count, "record"));
     let (records, _) = out.as_chunks();
     for (record, index) in records[..copied.unwrap_or(0)].iter().zip(first..) {
-        outcome.show(guest::row(index % ring_length, Event::of_bytes(*record)));
+        let index = index % ring_length;
+        outcome.show(match revision {
+            Revision::One => guest::revision1_row(index, Revision1Record::of_bytes(*record)),
+            Revision::Two => guest::row(index, Event::of_bytes(*record)),
+        });
     }
     outcome
 }

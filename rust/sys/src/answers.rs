@@ -15,7 +15,7 @@ pub const DEVICE_OFF: u8 = 5;
 pub const BAD_SLOT: u8 = 6;
 /// Too little room.
 pub const NO_ROOM: u8 = 7;
-/// An event that the slot doesn't offer.
+/// An event that the slot doesn't offer, or that has no form in revision 1 while it is served.
 pub const NOT_OFFERED: u8 = 8;
 /// A badly formed packet, entry, event or record.
 pub const MALFORMED: u8 = 9;

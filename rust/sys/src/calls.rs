@@ -1,5 +1,5 @@
 //! The functions, in the header's order.
-use crate::{Closed, Copied, Device, Driver, Geometry, RingEvent, RingFound, Settings, Told, Value};
+use crate::{Closed, Copied, Device, Driver, Geometry, RingEvent, RingFound, Settings, Taken, Told, Value};
 use core::ffi::c_void;
 
 extern "C" {
@@ -90,6 +90,8 @@ extern "C" {
         out: *mut u8,
         out_length: usize,
     ) -> u8;
+
+    pub fn thayarqo_revision1_step(geometry: Geometry, area: *mut u8, area_length: usize) -> Taken;
 
     pub fn thayarqo_ring_encode(out: *mut u8, out_length: usize, event: RingEvent) -> u8;
 

@@ -50,11 +50,21 @@ pub struct Device {
     pub interrupts: bool,
     pub isr: bool,
     pub client_rev_written: bool,
-    pub client_rev: u32,
-    pub lost: bool,
+    pub client_rev: u16,
+    pub acceleration: u16,
     pub write_index: u32,
     pub current_slot: u32,
+    pub position: Position,
+    pub lost: bool,
     pub taken: u64,
+}
+
+/// A pair of absolute coordinates.
+#[repr(C)]
+#[derive(Clone, Copy, Debug, Default, PartialEq, Eq)]
+pub struct Position {
+    pub x: u16,
+    pub y: u16,
 }
 
 /// The first eight bytes of a record, and of a packet's events each, on a little-endian machine.
@@ -111,6 +121,29 @@ pub struct Copied {
     pub answer: u8,
     pub count: u32,
 }
+
+/// What a step of revision 1 answers: a record's flags, which are `FLAG_` numbers, its revision and its data.
+#[repr(C)]
+#[derive(Clone, Copy, Debug, PartialEq, Eq)]
+pub struct Taken {
+    pub answer: u8,
+    pub flags: u16,
+    pub revision: u16,
+    pub data: u32,
+}
+
+pub const FLAG_ABSOLUTE: u16 = 0x001;
+pub const FLAG_RELATIVE: u16 = 0x002;
+/// The end of a group of records.
+pub const FLAG_FENCE: u16 = 0x004;
+pub const FLAG_LEFT_BUTTON_DOWN: u16 = 0x008;
+pub const FLAG_LEFT_BUTTON_UP: u16 = 0x010;
+pub const FLAG_RIGHT_BUTTON_DOWN: u16 = 0x020;
+pub const FLAG_RIGHT_BUTTON_UP: u16 = 0x040;
+pub const FLAG_MIDDLE_BUTTON_DOWN: u16 = 0x080;
+pub const FLAG_MIDDLE_BUTTON_UP: u16 = 0x100;
+pub const FLAG_HWHEEL: u16 = 0x200;
+pub const FLAG_VWHEEL: u16 = 0x400;
 
 /// An event of the keyboard ring: `kind` is one of the `RING_` numbers, and `subtype` of a touch one of the `TOUCH_` numbers.
 #[repr(C)]

@@ -1,7 +1,7 @@
 //! The calls over slices. The library's proofs hold for any numbers, any lengths and any states, so what makes these calls sound is
 //! that each buffer is a slice, that no two overlap, and that a bool is a bool.
 use crate::calls::*;
-use crate::{Closed, Copied, Device, Driver, Geometry, RingEvent, RingFound, Settings, Told, Value};
+use crate::{Closed, Copied, Device, Driver, Geometry, RingEvent, RingFound, Settings, Taken, Told, Value};
 
 pub fn fresh_device() -> Device {
     unsafe { thayarqo_fresh_device() }
@@ -123,6 +123,10 @@ pub fn copy_out(geometry: Geometry, area: &mut [u8], limit: u32, out: &mut [u8])
 
 pub fn lookup(geometry: Geometry, page: &[u8], slot: u32, out: &mut [u8]) -> u8 {
     unsafe { thayarqo_lookup(geometry, page.as_ptr(), page.len(), slot, out.as_mut_ptr(), out.len()) }
+}
+
+pub fn revision1_step(geometry: Geometry, area: &mut [u8]) -> Taken {
+    unsafe { thayarqo_revision1_step(geometry, area.as_mut_ptr(), area.len()) }
 }
 
 pub fn ring_encode(out: &mut [u8], event: RingEvent) -> u8 {

@@ -5,6 +5,8 @@ use thayarqo_sys::*;
 const HEADERS: &str = concat!(
     include_str!("../../../include/thayarqo.h"),
     include_str!("../../../include/thayarqo_answers.h"),
+    include_str!("../../../include/thayarqo_geometry.h"),
+    include_str!("../../../include/thayarqo_revision1.h"),
     include_str!("../../../include/thayarqo_ring.h"),
     include_str!("../../../include/thayarqo_settings.h"),
 );
@@ -25,6 +27,8 @@ fn constants() -> BTreeMap<&'static str, u64> {
     };
     all.extend(named! {
         TOLD_NOTHING TOLD_GAP TOLD_EMPTY_REPORT TOLD_PACKET TOLD_SET TOLD_CONF TOLD_RESET TOLD_RESET_ALL
+        FLAG_ABSOLUTE FLAG_RELATIVE FLAG_FENCE FLAG_LEFT_BUTTON_DOWN FLAG_LEFT_BUTTON_UP FLAG_RIGHT_BUTTON_DOWN
+        FLAG_RIGHT_BUTTON_UP FLAG_MIDDLE_BUTTON_DOWN FLAG_MIDDLE_BUTTON_UP FLAG_HWHEEL FLAG_VWHEEL
         RING_UNKNOWN RING_MOTION RING_KEY RING_POSITION RING_TOUCH
         TOUCH_DOWN TOUCH_UP TOUCH_MOTION TOUCH_SYN TOUCH_SHAPE TOUCH_ORIENT
     });

@@ -6,9 +6,19 @@ use crate::refusal::{Answer, Refusal};
 use crate::words;
 use thayarqo_sys::{self as sys, safe};
 
+/// Which guests a device serves. They differ in the records that a packet comes to.
+#[derive(Clone, Copy, Debug, PartialEq, Eq, Hash)]
+pub enum Revision {
+    /// Guests that never write CLIENT_REV, or write 1: a mouse alone, without slots. They read with a
+    /// [`Revision1Driver`](crate::Revision1Driver).
+    One,
+    /// Guests that write 2: devices of many kinds, each in a slot. They read with a [`Driver`](crate::Driver).
+    Two,
+}
+
 /// A device with pages of its own: its state, the event area and the entry page.
 ///
-/// A guest in the same program reads the pages through a [`Driver`](crate::Driver), which is lent [`Device::area_mut`]. For a guest
+/// A guest in the same program reads the pages through the driver of its [`Revision`], which is lent [`Device::area_mut`]. For a guest
 /// that runs at the same time see [`live`](crate::live).
 #[derive(Clone, Debug, PartialEq, Eq)]
 pub struct Device {
@@ -42,8 +52,8 @@ impl Device {
         Refusal::check(found.answer).map(|()| found.value)
     }
 
-    /// Writes a register, or READ_PTR, for the guest. A switch-on clears the pointers and puts the first records: that all slots
-    /// are reset, and which ones are taken.
+    /// Writes a register, or READ_PTR, for the guest. A switch-on clears the pointers, and in revision 2 puts the first records: that
+    /// all slots are reset, and which ones are taken.
     pub fn write(&mut self, offset: u64, width: u32, value: u32) -> Answer<()> {
         let geometry = self.geometry.numbers();
         Refusal::check(safe::write(
@@ -58,7 +68,12 @@ impl Device {
     }
 
     /// Puts a packet whole, or not at all. [`Refusal::NoRoom`] and [`Refusal::BadIndex`] set the lost mark: the guest is told of a
-    /// gap before the next packet that is put, unless the device is switched off first.
+    /// gap before the next packet that is put, unless the device is switched off first. A guest of revision 1 isn't told of gaps.
+    ///
+    /// For revision 1 the packet becomes a group: its motion, its position, its buttons, its wheel and a FENCE. [`Refusal::NotOffered`]
+    /// also where revision 1 has no form for it: for other codes than `REL_X`, `REL_Y`, `REL_WHEEL`, `ABS_X`, `ABS_Y`, `BTN_LEFT`,
+    /// `BTN_RIGHT` and `BTN_MIDDLE`, where one of these but a button comes twice, or where 16 bits don't hold a coordinate or a motion
+    /// at the [acceleration](Device::acceleration) in force.
     pub fn put_packet(&mut self, packet: &Packet) -> Answer<()> {
         let mut buffer = [0; sys::PACKET_LENGTH];
         self.put_packet_bytes(packet.source().number(), packet.bytes(&mut buffer))
@@ -77,7 +92,7 @@ impl Device {
         ))
     }
 
-    /// Takes a slot, and tells the guest while the device is on.
+    /// Takes a slot, and tells the guest while the device is on, but not one of revision 1.
     pub fn add(&mut self, slot: u32, entry: &Entry) -> Answer<()> {
         let mut bytes = vec![0; self.geometry.entry_size() as usize];
         bytes[..entry.bytes().len()].copy_from_slice(entry.bytes());
@@ -97,7 +112,7 @@ impl Device {
         ))
     }
 
-    /// Frees a slot, zeroes its entry, and tells the guest while the device is on.
+    /// Frees a slot, zeroes its entry, and tells the guest while the device is on, but not one of revision 1.
     pub fn remove(&mut self, slot: u32) -> Answer<()> {
         let geometry = self.geometry.numbers();
         Refusal::check(safe::remove(
@@ -140,12 +155,27 @@ impl Device {
         self.state.on
     }
 
+    /// The revision that the device serves, or would serve if it were switched on. None after the guest has written a CLIENT_REV that
+    /// is rejected: then the device stays off.
+    pub fn revision(&self) -> Option<Revision> {
+        match (self.state.client_rev_written, self.state.client_rev) {
+            (false, _) | (true, 1) => Some(Revision::One),
+            (true, 2) => Some(Revision::Two),
+            (true, _) => None,
+        }
+    }
+
+    /// What relative motion is multiplied by in revision 1, in tenths: 1 to 20. It is kept while another revision is served.
+    pub fn acceleration(&self) -> u16 {
+        self.state.acceleration
+    }
+
     /// Whether the device has an interrupt pending.
     pub fn has_interrupt(&self) -> bool {
         self.state.isr
     }
 
-    /// Whether a packet was lost since the last one that was put, or since the switch-on.
+    /// Whether a packet was lost since the last one that was put, or since the switch-on; in revision 1 since the switch-on.
     pub fn has_lost(&self) -> bool {
         self.state.lost
     }
@@ -155,7 +185,7 @@ impl Device {
         slot < u64::BITS && self.state.taken >> slot & 1 == 1
     }
 
-    /// The slot that the guest takes events to be of.
+    /// The slot that the guest takes events to be of. Revision 1 has none.
     pub fn current_slot(&self) -> Option<u32> {
         Some(self.state.current_slot).filter(|slot| *slot != sys::NO_SLOT)
     }

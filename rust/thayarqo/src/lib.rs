@@ -29,6 +29,9 @@
 //! # Ok::<(), Refusal>(())
 //! ```
 //!
+//! This guest is one of revision 2, as it has written 2 to CLIENT_REV. Guests of [revision 1](Revision::One) are served too: see
+//! [`Revision1Driver`].
+//!
 //! The proofs are about calls one after another: a page changes by these calls only. For a guest that runs at the same time, and may
 //! write its pages at any moment, there is the module [`live`].
 #![deny(missing_docs, unsafe_code)]
@@ -38,21 +41,26 @@ mod device;
 mod driver;
 mod entry;
 mod event;
+pub mod flags;
 mod geometry;
 pub mod live;
 mod refusal;
 pub mod register;
+mod revision1;
+mod revision1_driver;
 mod ring;
 mod ring_event;
 mod settings;
 mod words;
 
-pub use device::Device;
+pub use device::{Device, Revision};
 pub use driver::{Driver, Told};
 pub use entry::{Entry, KNOWN_ENTRY_LENGTH, NAME_LENGTH};
 pub use event::{Event, Packet, Source, EVENT_LENGTH, PACKET_EVENTS};
 pub use geometry::{Geometry, PAGE_LENGTH};
 pub use refusal::{Answer, Refusal};
+pub use revision1::{Group, Revision1Event, Revision1Record, GROUP_RECORDS};
+pub use revision1_driver::Revision1Driver;
 pub use ring::{RingConsumer, RingProducer, RING_PAGE_LENGTH};
 pub use ring_event::{RingEvent, RING_EVENT_LENGTH};
 pub use settings::{Closed, Settings};

@@ -15,7 +15,8 @@
 //! what it reads itself.
 //!
 //! A switch-on sets both pointers of the ring to 0, and the shared words don't tell one start from another. So a guest that switches
-//! the device off and on lets its driver rest meanwhile; [`LiveDriver::restart`] says what can go wrong otherwise.
+//! the device off and on lets its driver rest meanwhile; [`LiveDriver::restart`] and [`LiveRevision1Driver::restart`] say what can go
+//! wrong otherwise.
 //!
 //! ```
 //! use std::sync::atomic::AtomicU32;
@@ -49,11 +50,14 @@ mod device;
 mod driver;
 #[cfg(test)]
 mod interleaving;
+mod reader;
+mod revision1_driver;
 mod ring;
 mod shared;
 
 pub use device::LiveDevice;
 pub use driver::LiveDriver;
+pub use revision1_driver::LiveRevision1Driver;
 pub use ring::{LiveConsumer, LiveProducer};
 pub use shared::Shared;
 
@@ -70,9 +74,18 @@ const CLOSED: u32 = u32::MAX;
 /// Bytes of a record that the device writes.
 const RECORD_LENGTH: usize = crate::event::EVENT_LENGTH;
 
-/// Whether the event area and the entry page have the lengths that the geometry asks for.
-fn check_lengths(geometry: Geometry, area: Shared, page: Shared) -> Answer<()> {
-    if area.length() != geometry.area_length() || page.length() != PAGE_LENGTH {
+/// Whether the event area has the length that the geometry asks for.
+fn check_area(geometry: Geometry, area: Shared) -> Answer<()> {
+    check_length(area, geometry.area_length())
+}
+
+/// Whether the entry page is a page.
+fn check_page(page: Shared) -> Answer<()> {
+    check_length(page, PAGE_LENGTH)
+}
+
+fn check_length(memory: Shared, length: usize) -> Answer<()> {
+    if memory.length() != length {
         return Err(Refusal::Invalid);
     }
     Ok(())

@@ -29,7 +29,7 @@ pub enum Refusal {
     BadSlot = sys::BAD_SLOT,
     /// 7: too little room.
     NoRoom = sys::NO_ROOM,
-    /// 8: an event that the slot doesn't offer.
+    /// 8: an event that the slot doesn't offer, or that has no form in revision 1 while it is served.
     NotOffered = sys::NOT_OFFERED,
     /// 9: a badly formed packet, entry, event or record.
     Malformed = sys::MALFORMED,
@@ -85,7 +85,7 @@ impl fmt::Display for Refusal {
             Refusal::DeviceOff => "the device is off",
             Refusal::BadSlot => "the slot is out of range, taken or absent",
             Refusal::NoRoom => "there is too little room",
-            Refusal::NotOffered => "the slot doesn't offer an event",
+            Refusal::NotOffered => "an event isn't offered, or has no form in the guest's revision",
             Refusal::Malformed => "the packet, entry, event or record is badly formed",
             Refusal::BadIndex => "the other end's index is impossible",
             Refusal::NothingToRead => "there is nothing to read",

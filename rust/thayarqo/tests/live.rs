@@ -5,7 +5,7 @@ use common::{switch_on, Guarded, Log, Mark};
 use std::thread;
 use thayarqo::codes::{REL_X, REL_Y};
 use thayarqo::live::{LiveDevice, LiveDriver, Shared};
-use thayarqo::{Answer, Entry, Event, Geometry, Packet, Refusal, Source, Told};
+use thayarqo::{Answer, Entry, Event, Geometry, Packet, Refusal, Revision, Source, Told};
 
 const SLOTS: [u32; 2] = [3, 7];
 
@@ -14,7 +14,7 @@ fn started(geometry: Geometry, pages: &Guarded) -> Answer<(LiveDevice<'_>, LiveD
     for slot in SLOTS {
         device.add(slot, &Entry::new("mouse").offer_rel())?;
     }
-    switch_on(&mut device)?;
+    switch_on(&mut device, Revision::Two)?;
     Ok((device, driver))
 }
 
@@ -146,7 +146,7 @@ fn a_raw_mapping_is_as_good() -> Answer<()> {
     let mut device = LiveDevice::new(geometry, area, page)?;
     let mut driver = LiveDriver::new(geometry, area, page)?;
     device.add(4, &Entry::new("mouse").offer_rel())?;
-    switch_on(&mut device)?;
+    switch_on(&mut device, Revision::Two)?;
     assert_eq!(driver.step(), Ok(Told::ResetAll));
     assert_eq!(driver.step(), Ok(Told::Conf(4)));
     assert_eq!(driver.lookup(4)?.name(), b"mouse");

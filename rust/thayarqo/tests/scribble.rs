@@ -1,21 +1,20 @@
 //! A guest that writes its pages at any moment: the host's state is what the read pointers alone make of it.
 mod common;
 
-use common::{Guarded, Mark, Random};
+use common::{clicks, mouse, Guarded, Mark, Random};
 use std::sync::atomic::{AtomicU32, Ordering};
 use std::thread;
-use thayarqo::codes::REL_X;
-use thayarqo::live::{LiveDevice, LiveDriver};
-use thayarqo::register::{CLIENT_REV, CONTROL, CONTROL_ON, ISR, READ_PTR};
-use thayarqo::{Answer, Device, Entry, Event, Geometry, Packet, Refusal};
+use thayarqo::live::{LiveDevice, LiveDriver, LiveRevision1Driver};
+use thayarqo::register::{ACCELERATION, CLIENT_REV, CONTROL, CONTROL_ON, ISR, READ_PTR};
+use thayarqo::{Answer, Device, Geometry, Packet, Refusal};
 
 const CALLS: u32 = 300_000;
 
 /// The host goes on until the guest and the scribbler have had so many rounds each.
 const ROUNDS: u32 = 2000;
 
-fn mouse() -> Entry {
-    Entry::new("mouse").offer_rel()
+fn geometry() -> Answer<Geometry> {
+    Geometry::new(1, 8, 72)
 }
 
 /// A host with a reference beside it, which nobody can scribble on.
@@ -45,7 +44,7 @@ impl Host<'_> {
     }
 
     fn put(&mut self, slot: u32, count: u32) {
-        let packet = Packet::new(slot, &vec![Event::rel(REL_X, 1); count as usize]).expect("1 to 32 events");
+        let packet = Packet::new(slot, &clicks(count as usize)).expect("1 to 32 events");
         self.call(|live| live.put_packet(&packet), |device| device.put_packet(&packet));
     }
 
@@ -71,7 +70,8 @@ impl Host<'_> {
             90..95 => self.write(READ_PTR, random.below(600)),
             95..97 => self.write(ISR, 1),
             97..98 => self.write(CONTROL, 0),
-            _ => self.write(CLIENT_REV, 2),
+            98..99 => self.write(ACCELERATION, random.below(25)),
+            _ => self.write(CLIENT_REV, 7),
         }
         if !self.reference.is_on() {
             self.write(CONTROL, CONTROL_ON);
@@ -100,7 +100,19 @@ impl Marks {
     }
 }
 
-fn run_guest(mut driver: LiveDriver, marks: &Marks) {
+fn run_revision1_guest(pages: &Guarded, marks: &Marks) -> Answer<()> {
+    let mut driver = LiveRevision1Driver::new(geometry()?, pages.shared(0))?;
+    marks.go_round(&marks.guest_has_run, || {
+        assert!(matches!(
+            driver.receive(),
+            Ok(_) | Err(Refusal::Malformed | Refusal::BadIndex | Refusal::NothingToRead)
+        ));
+    });
+    Ok(())
+}
+
+fn run_guest(pages: &Guarded, marks: &Marks) -> Answer<()> {
+    let mut driver = LiveDriver::new(geometry()?, pages.shared(0), pages.shared(1))?;
     let mut random = Random(77);
     let mut out = [0; 80];
     marks.go_round(&marks.guest_has_run, || match random.below(10) {
@@ -114,6 +126,7 @@ fn run_guest(mut driver: LiveDriver, marks: &Marks) {
             Ok(_) | Err(Refusal::Malformed | Refusal::BadIndex | Refusal::NothingToRead)
         )),
     });
+    Ok(())
 }
 
 /// Any word, any number; the pointers more often than others, so that they are possible now and then.
@@ -130,9 +143,9 @@ fn scribble(area: &[AtomicU32], page: &[AtomicU32], marks: &Marks) {
     });
 }
 
-fn run_host(host: &mut Host, marks: &Marks) {
+fn run_host(host: &mut Host, client_rev: u32, marks: &Marks) {
     host.plug(1);
-    host.write(CLIENT_REV, 2);
+    host.write(CLIENT_REV, client_rev);
     host.write(CONTROL, CONTROL_ON);
     let mut random = Random(55);
     for _ in 0..CALLS {
@@ -144,11 +157,10 @@ fn run_host(host: &mut Host, marks: &Marks) {
     }
 }
 
-#[test]
-fn scribbling_changes_nothing_but_what_the_guest_reads() -> Answer<()> {
-    let geometry = Geometry::new(1, 8, 72)?;
-    let pages = Guarded::pages(geometry);
-    let (live, driver) = pages.both_ends(geometry)?;
+/// The guest writes this to CLIENT_REV, and has a driver for it.
+fn run_all(client_rev: u32, run_guest: fn(&Guarded, &Marks) -> Answer<()>) -> Answer<()> {
+    let pages = Guarded::pages(geometry()?);
+    let live = LiveDevice::new(geometry()?, pages.shared(0), pages.shared(1))?;
     let reference = live.device().clone();
     let mut host = Host {
         live,
@@ -158,11 +170,22 @@ fn scribbling_changes_nothing_but_what_the_guest_reads() -> Answer<()> {
     };
     let marks = Marks::default();
     thread::scope(|scope| {
-        scope.spawn(|| marks.guest_has_run.after(|| run_guest(driver, &marks)));
+        let guest = scope.spawn(|| marks.guest_has_run.after(|| run_guest(&pages, &marks)));
         scope.spawn(|| scribble(pages.words(0), pages.words(1), &marks));
-        marks.host_is_done.after(|| run_host(&mut host, &marks));
-    });
+        marks.host_is_done.after(|| run_host(&mut host, client_rev, &marks));
+        guest.join().expect("the guest")
+    })?;
     assert!(host.accepted > 1000 && host.refused > 1000);
     assert!(pages.is_whole());
     Ok(())
+}
+
+#[test]
+fn scribbling_changes_nothing_but_what_the_guest_reads() -> Answer<()> {
+    run_all(2, run_guest)
+}
+
+#[test]
+fn scribbling_changes_nothing_in_revision_1() -> Answer<()> {
+    run_all(1, run_revision1_guest)
 }

@@ -24,7 +24,8 @@ use Rattle.assembly.specs.Collect.{packetLength, collected, Collector, collect}
 use Rattle.assembly.proofs.Laws.Held.{moved-held, without-held}
 use Rattle.assembly.proofs.Laws.Collect.{none-joined, joined-length, joined-events}
 use Rattle.hotplug.specs.Remove.{currentWithout}
-use Rattle.delivery.specs.Log.{Item, gap, whole, toldBy}
+use Rattle.delivery.specs.Log.{Item, gap, whole}
+use Rattle.delivery.specs.Received.{toldBy}
 use Rattle.delivery.specs.Pending.{give}
 
 -- The events that a driver holds.

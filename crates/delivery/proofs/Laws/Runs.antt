@@ -20,7 +20,8 @@ use Rattle.assembly.specs.Kind.{kindOf}
 use Rattle.packet_records.specs.Packet.{lostRecords, setRecords, recordsFor}
 use Rattle.packets.specs.Packet.{allOffered}
 use Rattle.pending.proofs.Laws.Runs as runs
-use Rattle.delivery.specs.Log.{Item, whole, gapIf}
+use Rattle.delivery.specs.Log.{Item, whole}
+use Rattle.delivery.specs.Sent.{gapIf}
 use Rattle.delivery.specs.Pending.{give, driverReader}
 use Rattle.delivery.proofs.Laws.Holding.{Holding, Leads, join, report, drop-gives, drop-next, report-gap, set-slot}
 

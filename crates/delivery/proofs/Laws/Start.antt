@@ -1,53 +1,49 @@
--- The access that switches the device on makes the invariant hold, with nothing pending.
+-- The access that switches the device on makes the invariant hold, with nothing pending: the records that it puts, if any, give nothing.
 use Prim.Native.Nat.{ℕ, zero, suc, _+_, _-_, _≤_, _<_}
-use mathlib.Core.Path.{_≡_, refl, sym, ap, _∙_}
-use mathlib.Core.Bool.{Bool, true, false, not, _&&_, false≢true}
+use mathlib.Core.Path.{_≡_, refl}
+use mathlib.Core.Bool.{Bool, true, false}
 use mathlib.Core.List.{List, [], map}
 use native.Mathlib.Omega.{arith}
-use lib.Dec.{eqb}
 use lib.ListN.{length}
-use borrow.Author.Tests.{eqb-true, le-leb}
+use borrow.Author.Tests.{le-leb}
 use Rattle.answers.proofs.Choice.{either}
-use Rattle.words.specs.Words.{u32Bytes}
-use Rattle.copying.proofs.Laws.Overwrite.{overwrite-length, overwrite-before}
-use Rattle.words.proofs.Laws.Word.{agree-u32, u32-back}
 use Rattle.bits.specs.Bits.{bit}
 use Rattle.geometry.specs.declared.Geometry.{Geometry}
 use Rattle.geometry.specs.Geometry.{allowed, ringLength, ringOf, slotCount}
 use Rattle.geometry.proofs.Laws.Allowed.{sizes}
 use Rattle.records.specs.declared.Event.{Event}
-use Rattle.records.specs.Event.{eventsFrom}
+use Rattle.records.specs.Event.{AllFit, eventsFrom}
 use Rattle.records.specs.Codes.{DEV-CONF, noSlot, devRecord}
-use Rattle.records.specs.Ring.{Holds, readPointer, writePointer, withReadPointer, hasRoom}
-use Rattle.records.specs.Put.{putRecords, indexAfter}
+use Rattle.records.specs.Ring.{Holds, readPointer, writePointer, hasRoom}
+use Rattle.records.specs.Put.{indexAfter}
 use Rattle.records.proofs.Laws.Index.{unread-self}
 use Rattle.records.proofs.Laws.Place.{pointers-inside}
 use Rattle.assembly.specs.Collect.{Collector}
 use Rattle.driver.specs.Step.{isDriver}
-use Rattle.device.specs.declared.Device.{Device}
-use Rattle.device.specs.State.{mayRun}
+use Rattle.revision1_records.specs.Records.{origin}
+use Rattle.device.specs.declared.Revision.{Revision}
+use Rattle.device.specs.declared.Revision.the-variants.{One, Two}
 use Rattle.device.specs.Result.{Result}
 use Rattle.device.proofs.Laws.Call.{Call, call-with}
-use Rattle.access.specs.declared.Place.{Place}
-use Rattle.access.specs.declared.Place.the-variants as place
-use Rattle.access.specs.Place.{placeOf}
-use Rattle.access.specs.Access.{accessAnswer}
-use Rattle.switch_on.specs.SwitchOn.{takenFrom, startRecords, clearedPointers, switchedOn}
-use Rattle.registers.specs.Write.{controlOf, clientRevOf, effectOf, writeOf}
-use Rattle.access.proofs.Laws.Access.{granted}
-use Rattle.switch_on.proofs.Laws.SwitchOn.{start-fits, always-starts, start-events-fit}
+use Rattle.switch_on.specs.SwitchOn.{takenFrom, recordsAtStart, startRecords, clearedPointers, switchedOn}
+use Rattle.switch_on.proofs.Laws.SwitchOn.{start-fits, start-events-fit}
+use Rattle.registers.specs.Write.{writeOf}
 use Rattle.registers.proofs.Laws.Keeps.{write-keeps, write-size}
-use Rattle.pending.proofs.Laws.Pending.{Pending, pending-none, pending-put}
-use Rattle.delivery.specs.World.{World, write, call}
-use Rattle.delivery.specs.Pending.{driverReader}
-use Rattle.delivery.specs.Premises.{IsFresh}
+use Rattle.pending.proofs.Laws.Pending.{pending-none}
+use Rattle.pending.proofs.Laws.Runs as runs
+use Rattle.delivery.specs.World.{World, write, revisionIn, call}
+use Rattle.delivery.specs.Pending.{driverReader, groupReader}
+use Rattle.delivery.specs.Sent.{atSwitchOn}
+use Rattle.delivery.specs.Premises.{IsFresh, StartsFresh}
 use Rattle.delivery.proofs.Laws.Holding.{Holding, conf, reset-all}
 use Rattle.delivery.proofs.Laws.Runs.{Runs, none, one, then}
-use Rattle.delivery.proofs.Laws.Invariant.{Invariant}
+use Rattle.delivery.proofs.Laws.Reads.{Reads, Puts, putIn, reads-put}
+use Rattle.delivery.proofs.Laws.Invariant.{Invariant, senderOf}
+use Rattle.delivery.proofs.Laws.Switch.{Switched, cleared-length, cleared-read, cleared-write, write-switches, was-call}
 
--- ---- the driver's run over the first records
+-- ---- the first records, in revision 2; none in revision 1
 
-module _ (geometry : Geometry) where
+module _ (geometry : Geometry) (ok : allowed geometry ≡ true) where
   conf-runs : (taken slot count : ℕ) → slot + count ≤ slotCount geometry → {collector : Collector} → Holding noSlot [] collector
       → Runs geometry collector (map (devRecord DEV-CONF) (takenFrom taken slot count)) [] noSlot []
   unfolding takenFrom
@@ -58,15 +54,24 @@ module _ (geometry : Geometry) where
       (λ middle next. conf-runs taken (suc slot) count (omega arith) next))
       (λ free. conf-runs taken (suc slot) count (omega arith) held)
 
-  start-runs : (device : Device) {collector : Collector} → allowed geometry ≡ true → Holding noSlot [] collector
-      → Runs geometry collector (startRecords geometry device) [] noSlot []
-  start-runs device ok held =
-      then geometry (one geometry (reset-all geometry ok held))
-      (λ middle next. conf-runs (device .taken) 0 (slotCount geometry) (omega arith) next)
+  start-puts : (revision : Revision) (taken : ℕ) → AllFit (recordsAtStart revision taken (slotCount geometry))
+      → Puts revision geometry noSlot (recordsAtStart revision taken (slotCount geometry)) [] noSlot origin
+  start-puts One taken fits = record {
+    fits = fits;
+    position-fits = record { x-fits = omega arith; y-fits = omega arith };
+    runs = λ begun at. runs.none groupReader at;
+  }
+  start-puts Two taken fits = record {
+    fits = fits;
+    runs = λ collector held. then geometry (one geometry (reset-all geometry ok held))
+        (λ middle next. conf-runs taken 0 (slotCount geometry) (omega arith) next);
+  }
 
-  fresh-driver : (collector : Collector) → IsFresh collector → isDriver geometry (collector .driver) ≡ true
-  unfolding isDriver
-  fresh-driver collector fresh = rw (fresh .is-fresh)
+-- ---- a fresh reader before an empty ring
+
+fresh-driver : (geometry : Geometry) (collector : Collector) → IsFresh collector → isDriver geometry (collector .driver) ≡ true
+unfolding isDriver
+fresh-driver geometry collector fresh = rw (fresh .is-fresh)
 
 fresh-holding : (collector : Collector) → IsFresh collector → Holding noSlot [] collector
 unfolding eventsFrom
@@ -80,125 +85,56 @@ fresh-holding collector fresh = record {
   not-ignoring = rw (fresh .is-fresh);
 }
 
--- ---- both pointers 0
+-- The world as if no record had been put yet.
+abbrev emptied : Bool → World → World
+emptied interrupts world = record {
+  device = switchedOn interrupts 0 (world .device);
+  area = clearedPointers (world .area);
+  page = world .page;
+  collector = world .collector;
+}
 
-module _ (area : List ℕ) (room : 8 ≤ length area) where
-  half : length (withReadPointer area 0) ≡ length area
-  half = overwrite-length area 0 (u32Bytes 0) (omega arith)
-
-  cleared-length : length (clearedPointers area) ≡ length area
-  cleared-length = overwrite-length (withReadPointer area 0) 4 (u32Bytes 0) (omega (arith, half)) ∙ half
-
-  cleared-write : writePointer (clearedPointers area) ≡ 0
-  cleared-write = u32-back (withReadPointer area 0) 4 0 (omega arith) (omega (arith, half))
-
-  cleared-read : readPointer (clearedPointers area) ≡ 0
-  cleared-read =
-      agree-u32 (clearedPointers area) (withReadPointer area 0) 0
-      (overwrite-before (withReadPointer area 0) 4 (u32Bytes 0) 0 4 (omega (arith, half)) (omega arith))
-      ∙ u32-back area 0 0 (omega arith) (omega arith)
+empty-reads : (revision : Revision) (geometry : Geometry) (world : World) (interrupts : Bool) → 0 < ringLength geometry
+    → readPointer (clearedPointers (world .area)) ≡ 0 → writePointer (clearedPointers (world .area)) ≡ 0
+    → StartsFresh revision (world .collector) → Reads revision geometry (emptied interrupts world) [] []
+empty-reads One geometry world interrupts low r w fresh = record {
+  position = record { x-fits = omega arith; y-fits = omega arith };
+  ahead = pending-none groupReader (ringOf geometry) (clearedPointers (world .area)) 0 low r w refl;
+}
+empty-reads Two geometry world interrupts low r w fresh = record {
+  packet-size = fresh .size;
+  is-driver = fresh-driver geometry (world .collector) fresh;
+  ahead = pending-none (driverReader geometry) (ringOf geometry) (clearedPointers (world .area)) 0 low r w
+      (fresh-holding (world .collector) fresh);
+}
 
 -- ---- the access
 
--- A write after which a device that was off is on.
-record Switched (geometry : Geometry) (device : Device) (area : List ℕ) (result : Result) : Type 0 where
-  interrupts : Bool
-  device-after : result .outcome .device ≡ switchedOn interrupts (indexAfter (ringOf geometry) 0 (startRecords geometry device)) device
-  area-after : result .area ≡ putRecords (ringOf geometry) 0 (startRecords geometry device) (clearedPointers area)
+module _ (geometry : Geometry) (world : World) (fresh : StartsFresh (revisionIn world) (world .collector))
+    (off : world .device .registers .on ≡ false) where
+  -- What the first records leave of the world.
+  abbrev first : Bool → World
+  first interrupts =
+      let records = startRecords geometry (world .device) in
+      putIn geometry (emptied interrupts world) records
+      (switchedOn interrupts (indexAfter (ringOf geometry) 0 records) (world .device)) (world .page)
 
-module _ (geometry : Geometry) (device : Device) (area : List ℕ) (ok : allowed geometry ≡ true) (off : device .registers .on ≡ false) where
-  OnlyOn : Result → Type 0
-  OnlyOn result = result .outcome .device .registers .on ≡ true → Switched geometry device area result
-
-  stays-off : (result : Result) → result .outcome .device .registers .on ≡ false → OnlyOn result
-  unfolding OnlyOn
-  stays-off result still on = absurd (false≢true (sym still ∙ on))
-
-  not-asked : (wanted two : Bool) → (wanted && (two && not (device .registers .on))) ≡ false → (wanted && two) ≡ false
-  not-asked true true h = absurd (false≢true (sym (rw off at h)))
-  not-asked true false h = refl
-  not-asked false two h = refl
-
-  control-switches : (value : ℕ) → OnlyOn (controlOf geometry device area value)
-  unfolding controlOf OnlyOn
-  control-switches value =
-      either OnlyOn (bit value 0 && (mayRun (device .registers) && not (device .registers .on)))
-      (λ asked on.
-      let start = always-starts geometry device ok area (bit value 1) in
-      record {
-        interrupts = bit value 1;
-        device-after = ap (λ (result : Result). result .outcome .device) start;
-        area-after = ap (λ (result : Result). result .area) start;
-      })
-      (λ kept. stays-off _ (not-asked (bit value 0) (mayRun (device .registers)) kept))
-
-  client-rev-off : (value : ℕ) → clientRevOf device value .registers .on ≡ false
-  unfolding clientRevOf
-  client-rev-off value = either (λ (after : Device). after .registers .on ≡ false) (device .registers .on) (λ on. off) (λ still. off)
-
-  effect-switches : (value : ℕ) (at : Place) → OnlyOn (effectOf geometry device area value at)
-  effect-switches value place.Magic = stays-off _ off
-  effect-switches value place.Rev = stays-off _ off
-  effect-switches value place.Control = control-switches value
-  effect-switches value place.EventSize = stays-off _ off
-  effect-switches value place.Npages = stays-off _ off
-  effect-switches value place.Acceleration = stays-off _ off
-  effect-switches value place.Isr = stays-off _ off
-  effect-switches value place.ConfSize = stays-off _ off
-  effect-switches value place.ClientRev = stays-off _ (client-rev-off value)
-  effect-switches value place.ReadPtr = stays-off _ off
-  effect-switches value place.EventArea = stays-off _ off
-  effect-switches value place.EntryPage = stays-off _ off
-  effect-switches value place.Nothing = stays-off _ off
-
-  write-switches : (pageSize offset width value : ℕ) → OnlyOn (writeOf geometry device area pageSize offset width value)
-  unfolding writeOf
-  write-switches pageSize offset width value =
-      either OnlyOn (eqb (accessAnswer geometry device (length area) pageSize true offset width) 0)
-      (λ done. effect-switches value (placeOf geometry offset)) (λ refused. stays-off _ off)
-
--- a write that changes the state was a call
-was-call : (geometry : Geometry) (device : Device) (area : List ℕ) (pageSize offset width value : ℕ) → device .registers .on ≡ false
-    → writeOf geometry device area pageSize offset width value .outcome .device .registers .on ≡ true
-    → Call geometry device (length area) pageSize
-unfolding writeOf
-was-call geometry device area pageSize offset width value off on =
-    go (eqb (accessAnswer geometry device (length area) pageSize true offset width) 0) refl
-  where
-    go : (test : Bool) → eqb (accessAnswer geometry device (length area) pageSize true offset width) 0 ≡ test
-        → Call geometry device (length area) pageSize
-    go true done = granted geometry device (length area) pageSize true offset width (eqb-true _ 0 done) .is-call
-    go false refused = absurd (false≢true (sym off ∙ rw refused at on))
-
--- ---- the invariant
-
-module _ (geometry : Geometry) (world : World) (fresh : IsFresh (world .collector)) (off : world .device .registers .on ≡ false) where
-  -- an empty ring: both pointers were made 0
-  empty : Call geometry (world .device) (length (world .area)) (length (world .page))
-      → Pending (driverReader geometry) (ringOf geometry) (clearedPointers (world .area)) 0 (world .collector) [] (Holding noSlot [])
-  empty c =
+  first-reads : (interrupts : Bool) → Call geometry (world .device) (length (world .area)) (length (world .page))
+      → Reads (revisionIn world) geometry (first interrupts) [] []
+  first-reads interrupts c =
+      let device = world .device in
+      let records : List Event = startRecords geometry device in
       let low : 0 < ringLength geometry = omega (arith, sizes geometry (c .is-allowed) .ring-low) in
       let room = pointers-inside (length (world .area)) (ringOf geometry) (c .holds) in
-      pending-none (driverReader geometry) (ringOf geometry) (clearedPointers (world .area)) 0 low
-      (cleared-read (world .area) room) (cleared-write (world .area) room) (fresh-holding (world .collector) fresh)
-
-  -- the first records are put
-  started : Call geometry (world .device) (length (world .area)) (length (world .page))
-      → Pending (driverReader geometry) (ringOf geometry)
-      (putRecords (ringOf geometry) 0 (startRecords geometry (world .device)) (clearedPointers (world .area)))
-      (indexAfter (ringOf geometry) 0 (startRecords geometry (world .device))) (world .collector) [] (Holding noSlot [])
-  started c =
-      let records : List Event = startRecords geometry (world .device) in
-      let cleared : List ℕ = clearedPointers (world .area) in
-      let low : 0 < ringLength geometry = omega (arith, sizes geometry (c .is-allowed) .ring-low) in
-      let room = pointers-inside (length (world .area)) (ringOf geometry) (c .holds) in
-      let holds : Holds (length cleared) (ringOf geometry) = rw (cleared-length (world .area) room) (c .holds) in
-      let few = start-fits geometry (world .device) (c .is-allowed) in
-      let fits : hasRoom (ringOf geometry) (readPointer cleared) 0 (length records) ≡ true
-      = rw (cleared-read (world .area) room, unread-self (ringOf geometry) 0 low)
-      (le-leb (0 + length records) (ringLength geometry - 1) (omega (arith, few))) in
-      pending-put (driverReader geometry) (empty c) records [] holds (start-events-fit geometry (world .device) (c .is-allowed)) fits
-      (λ middle held. start-runs geometry (world .device) (c .is-allowed) held)
+      let read = cleared-read (world .area) room in
+      let holds : Holds (length (clearedPointers (world .area))) (ringOf geometry) = rw (cleared-length (world .area) room) (c .holds) in
+      let few = start-fits geometry device (c .is-allowed) in
+      let fits : hasRoom (ringOf geometry) (readPointer (clearedPointers (world .area))) 0 (length records) ≡ true
+      = rw (read, unread-self (ringOf geometry) 0 low) (le-leb (0 + length records) (ringLength geometry - 1) (omega (arith, few))) in
+      reads-put geometry (emptied interrupts world) [] [] (revisionIn world)
+      (empty-reads (revisionIn world) geometry world interrupts low read (cleared-write (world .area) room) fresh) holds records [] _
+      (world .page) fits
+      (start-puts geometry (c .is-allowed) (revisionIn world) (device .taken) (start-events-fit geometry device (c .is-allowed))) refl
 
   module _ (offset width value : ℕ) where
     abbrev switched : Result
@@ -208,12 +144,11 @@ module _ (geometry : Geometry) (world : World) (fresh : IsFresh (world .collecto
     called on = was-call geometry (world .device) (world .area) (length (world .page)) offset width value off on
 
     switches : switched .outcome .device .registers .on ≡ true → Switched geometry (world .device) (world .area) switched
-    unfolding OnlyOn
     switches on =
         write-switches geometry (world .device) (world .area) (called on .is-allowed) off (length (world .page)) offset width value on
 
     pub start-holds : call geometry world (write offset width value) .world .device .registers .on ≡ true
-        → Invariant geometry (call geometry world (write offset width value) .world) []
+        → Invariant geometry (call geometry world (write offset width value) .world) [] []
     unfolding call
     start-holds on =
         let c = called on in
@@ -223,13 +158,12 @@ module _ (geometry : Geometry) (world : World) (fresh : IsFresh (world .collecto
         record {
           called = rw size (call-with geometry _ c keeps);
           on = on;
-          packet-size = fresh .size;
-          is-driver = fresh-driver geometry (world .collector) fresh;
-          ahead = rw (s .area-after, s .device-after) (started c);
+          reads = rw (s .area-after, s .device-after) (first-reads (s .interrupts) c);
         }
 
-    -- nothing was refused yet
-    pub start-not-lost : call geometry world (write offset width value) .world .device .registers .on ≡ true
-        → call geometry world (write offset width value) .world .device .producer .lost ≡ false
+    -- nothing was sent yet
+    pub start-sender : call geometry world (write offset width value) .world .device .registers .on ≡ true
+        → let device = call geometry world (write offset width value) .world .device in
+        senderOf device ≡ atSwitchOn (senderOf device .revision) (device .registers .acceleration)
     unfolding call
-    start-not-lost on = rw (switches on .device-after)
+    start-sender on = rw (switches on .device-after)

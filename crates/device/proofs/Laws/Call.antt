@@ -10,7 +10,7 @@ use Rattle.geometry.proofs.Laws.Allowed.{both}
 use Rattle.records.specs.Ring.{Holds}
 use Rattle.records.proofs.Laws.Place.{allowed-holds}
 use Rattle.device.specs.declared.Device.{Device}
-use Rattle.device.specs.State.{writeIndexRule, takenRule, clientRevRule, currentRule, isDevice}
+use Rattle.device.specs.State.{writeIndexRule, takenRule, clientRevRule, accelerationRule, currentRule, isDevice}
 use Rattle.device.specs.Call.{isValidPages, isValidBounds, isValidCall}
 use Rattle.device.proofs.Laws.Rules.{Rules, rules, rules-hold}
 
@@ -52,12 +52,14 @@ pages-allowed geometry areaSize pageSize h = both (allowed geometry) _ h .0
 -- the numbers that the geometry bounds first, then the rest of the state
 pub call-tests : (geometry : Geometry) (device : Device) (areaSize pageSize : ℕ)
     → (isValidBounds geometry areaSize pageSize (device .producer .«write_index») (device .taken)
-    && (clientRevRule (device .registers) && currentRule (device .taken) (device .producer .«current_slot»)))
+    && (clientRevRule (device .registers)
+    && (accelerationRule (device .registers) && currentRule (device .taken) (device .producer .«current_slot»))))
     ≡ isValidCall geometry device areaSize pageSize
 unfolding isValidBounds isValidCall isDevice
 call-tests geometry device areaSize pageSize =
     let pages : Bool = isValidPages geometry areaSize pageSize in
     let index : Bool = writeIndexRule geometry (device .producer .«write_index») in
     let slots : Bool = takenRule geometry (device .taken) in
-    let rest : Bool = clientRevRule (device .registers) && currentRule (device .taken) (device .producer .«current_slot») in
+    let current : Bool = currentRule (device .taken) (device .producer .«current_slot») in
+    let rest : Bool = clientRevRule (device .registers) && (accelerationRule (device .registers) && current) in
     and-assoc pages (index && slots) rest ∙ ap (λ (test : Bool). pages && test) (and-assoc index slots rest)

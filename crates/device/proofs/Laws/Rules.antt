@@ -12,16 +12,19 @@ use Rattle.geometry.specs.declared.Geometry.{Geometry}
 use Rattle.geometry.specs.Geometry.{ringLength, slotCount}
 use Rattle.geometry.proofs.Laws.Allowed.{both}
 use Rattle.records.specs.Codes.{noSlot}
+use Rattle.revision1_records.specs.declared.Position.{Position}
 use Rattle.device.specs.declared.Registers.{Registers}
 use Rattle.device.specs.declared.Producer.{Producer}
 use Rattle.device.specs.declared.Device.{Device}
-use Rattle.device.specs.Setters.{withProducer, withTaken, withControl, withIsr, withClientRev, withWriteIndex, withCurrentSlot}
-use Rattle.device.specs.Setters.{withLost}
-use Rattle.device.specs.State.{isTaken, mayRun, takenRule, writeIndexRule, clientRevRule, currentRule, isDevice}
+use Rattle.device.specs.Revision.{mayRun}
+use Rattle.device.specs.Setters.{withProducer, withTaken, withControl, withIsr, withClientRev, withAcceleration}
+use Rattle.device.specs.Setters.{withLost, withPosition, withWriteIndex, withCurrentSlot}
+use Rattle.device.specs.State.{isTaken, isAcceleration, isClientRev, takenRule, writeIndexRule, clientRevRule, currentRule, isDevice}
 
 pub record Rules (geometry : Geometry) (device : Device) : Type 0 where
   pub write-inside : device .producer .«write_index» < ringLength geometry
   pub client-rev : clientRevRule (device .registers) ≡ true
+  pub acceleration : isAcceleration (device .registers .acceleration) ≡ true
   pub taken-inside : device .taken < 2 ^ slotCount geometry
   pub current : currentRule (device .taken) (device .producer .«current_slot») ≡ true
 
@@ -33,11 +36,13 @@ rules geometry device h =
     let a = both (writeIndexRule geometry (device .producer .«write_index»)) _ h in
     let b = both (takenRule geometry (device .taken)) _ (a .1) in
     let c = both (clientRevRule (device .registers)) _ (b .1) in
+    let d = both (isAcceleration (device .registers .acceleration)) _ (c .1) in
     record {
       write-inside = ltb-true _ _ (a .0);
       client-rev = c .0;
+      acceleration = d .0;
       taken-inside = ltb-true (device .taken) (2 ^ slotCount geometry) (b .0);
-      current = c .1;
+      current = d .1;
     }
 
 pub rules-hold : (geometry : Geometry) (device : Device) → Rules geometry device → isDevice geometry device ≡ true
@@ -46,19 +51,20 @@ rules-hold geometry device keeps =
     rw (
       lt-ltb (device .producer .«write_index») (ringLength geometry) (keeps .write-inside),
       keeps .client-rev,
+      keeps .acceleration,
       lt-ltb (device .taken) (2 ^ slotCount geometry) (keeps .taken-inside),
       keeps .current,
     )
 
 -- ---- the registers
 
--- CLIENT_REV is 0 or 2, and 0 if never written: what CONTROL doesn't decide
+-- CLIENT_REV is 0, 1 or 2, and 0 if never written: what CONTROL doesn't decide
 client-rev-parts : (registers : Registers) → clientRevRule registers ≡ true
-    → ((eqb (registers .«client_rev») 0 || eqb (registers .«client_rev») 2) ≡ true)
+    → (isClientRev (registers .«client_rev») ≡ true)
     × ((registers .«client_rev_written» || eqb (registers .«client_rev») 0) ≡ true)
 unfolding clientRevRule
 client-rev-parts registers rule =
-    let a = both (eqb (registers .«client_rev») 0 || eqb (registers .«client_rev») 2) _ rule in
+    let a = both (isClientRev (registers .«client_rev»)) _ rule in
     (a .0, both (not (registers .on) || mayRun registers) _ (a .1) .1)
 
 on-if : (on may : Bool) → (on ≡ true → may ≡ true) → (not on || may) ≡ true
@@ -71,6 +77,7 @@ module _ {geometry : Geometry} {device : Device} (keeps : Rules geometry device)
   rules-isr isr = record {
     write-inside = keeps .write-inside;
     client-rev = keeps .client-rev;
+    acceleration = keeps .acceleration;
     taken-inside = keeps .taken-inside;
     current = keeps .current;
   }
@@ -84,17 +91,29 @@ module _ {geometry : Geometry} {device : Device} (keeps : Rules geometry device)
       record {
         write-inside = keeps .write-inside;
         client-rev = rw (parts .0, on-if on (mayRun (device .registers)) may, parts .1);
+        acceleration = keeps .acceleration;
         taken-inside = keeps .taken-inside;
         current = keeps .current;
       }
 
-  -- while off CLIENT_REV becomes 0 or 2
-  pub rules-client-rev : (rev : ℕ) → device .registers .on ≡ false → (eqb rev 0 || eqb rev 2) ≡ true
+  -- while off CLIENT_REV becomes 0, 1 or 2
+  pub rules-client-rev : (rev : ℕ) → device .registers .on ≡ false → isClientRev rev ≡ true
       → Rules geometry (withClientRev rev device)
   unfolding clientRevRule
   rules-client-rev rev off allowed = record {
     write-inside = keeps .write-inside;
     client-rev = rw (allowed, off);
+    acceleration = keeps .acceleration;
+    taken-inside = keeps .taken-inside;
+    current = keeps .current;
+  }
+
+  pub rules-acceleration : (acceleration : ℕ) → isAcceleration acceleration ≡ true → Rules geometry (withAcceleration acceleration device)
+  unfolding clientRevRule
+  rules-acceleration acceleration inside = record {
+    write-inside = keeps .write-inside;
+    client-rev = keeps .client-rev;
+    acceleration = inside;
     taken-inside = keeps .taken-inside;
     current = keeps .current;
   }
@@ -106,6 +125,7 @@ module _ {geometry : Geometry} {device : Device} (keeps : Rules geometry device)
   rules-producer producer inside current = record {
     write-inside = inside;
     client-rev = keeps .client-rev;
+    acceleration = keeps .acceleration;
     taken-inside = keeps .taken-inside;
     current = current;
   }
@@ -119,6 +139,9 @@ module _ {geometry : Geometry} {device : Device} (keeps : Rules geometry device)
   pub rules-lost : (lost : Bool) → Rules geometry (withLost lost device)
   rules-lost lost = rules-producer _ (keeps .write-inside) (keeps .current)
 
+  pub rules-position : (position : Position) → Rules geometry (withPosition position device)
+  rules-position position = rules-producer _ (keeps .write-inside) (keeps .current)
+
   -- ---- the taken slots
 
   pub rules-taken : (taken : ℕ) → taken < 2 ^ slotCount geometry → currentRule taken (device .producer .«current_slot») ≡ true
@@ -126,6 +149,7 @@ module _ {geometry : Geometry} {device : Device} (keeps : Rules geometry device)
   rules-taken taken inside current = record {
     write-inside = keeps .write-inside;
     client-rev = keeps .client-rev;
+    acceleration = keeps .acceleration;
     taken-inside = inside;
     current = current;
   }

@@ -1,6 +1,6 @@
 -- What is known of an add and of a remove that is not refused: no test of its table holds.
 use Prim.Native.Nat.{ℕ, _<_}
-use mathlib.Core.Path.{_≡_, refl}
+use mathlib.Core.Path.{_≡_, sym, ap, _∙_}
 use mathlib.Core.Bool.{Bool, true, false}
 use mathlib.Core.List.{List}
 use native.Mathlib.Omega.{arith}
@@ -13,21 +13,24 @@ use Rattle.geometry.specs.Geometry.{ringOf, slotCount}
 use Rattle.geometry.proofs.Laws.Allowed.{sizes}
 use Rattle.geometry.proofs.Laws.Slots.{few-slots}
 use Rattle.records.specs.declared.Event.{Event}
+use Rattle.records.specs.Put.{recordIf}
+use Rattle.records.proofs.Laws.PutAll.{if-length}
 use Rattle.entries.specs.Entry.{isPresent}
+use Rattle.device.specs.declared.Registers.{Registers}
 use Rattle.device.specs.declared.Device.{Device}
 use Rattle.device.specs.State.{isTaken}
 use Rattle.device.specs.Call.{isValidCall}
 use Rattle.device.specs.Room.{roomRefusal}
 use Rattle.device.proofs.Laws.Rules.{taken-slot}
 use Rattle.device.proofs.Laws.Call.{Call, call}
-use Rattle.hotplug.specs.Hotplug.{recordsIf}
+use Rattle.hotplug.specs.Hotplug.{tells}
 use Rattle.hotplug.specs.Add.{addRecords, addAnswer}
 use Rattle.hotplug.specs.Remove.{removeRecords, removeAnswer}
 
--- one record while on
-pub records-if : (on : Bool) (event : Event) → bitOf on ≡ length (recordsIf on event)
-records-if true event = refl
-records-if false event = refl
+-- how many records a call puts
+pub needed : (registers : Registers) (event : Event) {told : Bool} {count : ℕ} → told ≡ tells registers → count ≡ bitOf told
+    → count ≡ length (recordIf (tells registers) event)
+needed registers event e h = h ∙ ap bitOf e ∙ sym (if-length (tells registers) event)
 
 module _ (geometry : Geometry) (device : Device) (area page : List ℕ) (slot : ℕ) where
   -- what both calls have: a slot in range, which is a bit of the mask

@@ -1,18 +1,24 @@
 -- Several records put one after the other: what they leave, and that they are appended to the unread ones.
 use Prim.Native.Nat.{ℕ, _+_, _<_}
 use mathlib.Core.Path.{_≡_, refl, sym, ap, _∙_}
+use mathlib.Core.Bool.{Bool, true, false, cond}
 use mathlib.Core.List.{List, [], _∷_, _++_, append-assoc, append-nil}
 use native.Mathlib.Omega.{arith}
 use lib.ListN.{length}
 use Rattle.geometry.specs.declared.Ring.{Ring}
 use Rattle.records.specs.Event.{AllFit}
 use Rattle.records.specs.Ring.{Holds, readPointer, writePointer, nextIndex, unreadCount, putRecord}
-use Rattle.records.specs.Put.{putRecords, indexAfter, Put}
+use Rattle.records.specs.Put.{putRecords, indexAfter, recordIf, Put}
 use Rattle.records.specs.Unread.{unread}
 use Rattle.records.specs.declared.Event.{Event}
 use Rattle.records.proofs.Laws.Index.{next-inside, unread-more}
 use Rattle.records.proofs.Laws.Put.{put-length, put-read-pointer, put-write-pointer}
 use Rattle.records.proofs.Laws.Unread.{put-appends}
+
+-- one record or none
+pub if-length : (given : Bool) (event : Event) → length (recordIf given event) ≡ cond given 1 0
+if-length true event = refl
+if-length false event = refl
 
 -- ---- one put after another
 

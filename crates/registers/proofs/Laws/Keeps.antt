@@ -1,7 +1,7 @@
 -- What a write keeps: the state rules, by what each setter needs, and the length of the event area.
 use Prim.Native.Nat.{ℕ, _≤_}
 use mathlib.Core.Path.{_≡_, refl, _∙_}
-use mathlib.Core.Bool.{Bool, true, false, not, _&&_, _||_, cond, false≢true}
+use mathlib.Core.Bool.{Bool, true, false, not, _&&_, cond, false≢true}
 use mathlib.Core.List.{List}
 use native.Mathlib.Omega.{arith}
 use lib.Dec.{eqb}
@@ -18,9 +18,11 @@ use Rattle.records.specs.Ring.{Holds, withReadPointer}
 use Rattle.records.proofs.Laws.Place.{pointers-inside}
 use Rattle.records.proofs.Laws.PutAll.{after-inside, puts-length}
 use Rattle.device.specs.declared.Device.{Device}
-use Rattle.device.specs.State.{freshProducer, mayRun}
+use Rattle.device.specs.Revision.{isRevision1, mayRun}
+use Rattle.device.specs.State.{freshProducer, isAcceleration, isClientRev}
 use Rattle.device.specs.Result.{Result}
-use Rattle.device.proofs.Laws.Rules.{Rules, rules-isr, rules-control, rules-client-rev, rules-producer, rules-write-index, none-current}
+use Rattle.device.proofs.Laws.Rules.{Rules, rules-isr, rules-control, rules-client-rev, rules-acceleration, rules-producer}
+use Rattle.device.proofs.Laws.Rules.{rules-write-index, none-current}
 use Rattle.access.specs.declared.Place.{Place}
 use Rattle.access.specs.declared.Place.the-variants.{Magic, Rev, Control, EventSize, Npages, Acceleration, Isr}
 use Rattle.access.specs.declared.Place.the-variants.{ConfSize, ClientRev, ReadPtr, EventArea, EntryPage, Nothing}
@@ -29,23 +31,31 @@ use Rattle.access.specs.Access.{accessAnswer}
 use Rattle.access.proofs.Laws.Access.{granted}
 use Rattle.switch_on.specs.SwitchOn.{startRecords, clearedPointers, switchOn}
 use Rattle.switch_on.proofs.Laws.SwitchOn.{always-starts}
-use Rattle.registers.specs.Write.{controlOf, clientRevOf, effectOf, writeOf}
+use Rattle.registers.specs.Write.{controlOf, clientRevOf, accelerationOf, effectOf, writeOf}
 
 -- on only where it may run
 on-if-may : (wanted may : Bool) → (wanted && may) ≡ true → may ≡ true
 on-if-may true may h = h
 on-if-may false may h = absurd (false≢true h)
 
--- CLIENT_REV after a write is 0 or 2
-zero-or-two : (two : Bool) → (eqb (cond two 2 0) 0 || eqb (cond two 2 0) 2) ≡ true
-zero-or-two true = refl
-zero-or-two false = refl
+-- CLIENT_REV after a write is 0, 1 or 2
+is-client-rev : (two one : Bool) → isClientRev (cond two 2 (cond one 1 0)) ≡ true
+is-client-rev true one = refl
+is-client-rev false true = refl
+is-client-rev false false = refl
 
 module _ (geometry : Geometry) (device : Device) (keeps : Rules geometry device) where
   client-rev-keeps : (value : ℕ) → Rules geometry (clientRevOf device value)
   unfolding clientRevOf
   client-rev-keeps value =
-      either (Rules geometry) (device .registers .on) (λ on. keeps) (λ off. rules-client-rev keeps _ off (zero-or-two (eqb value 2)))
+      either (Rules geometry) (device .registers .on) (λ on. keeps)
+      (λ off. rules-client-rev keeps _ off (is-client-rev (eqb value 2) (eqb value 1)))
+
+  acceleration-keeps : (value : ℕ) → Rules geometry (accelerationOf device value)
+  unfolding accelerationOf
+  acceleration-keeps value =
+      either (Rules geometry) (isRevision1 (device .registers) && isAcceleration value)
+      (λ taken. rules-acceleration keeps value (both (isRevision1 (device .registers)) _ taken .1)) (λ ignored. keeps)
 
   module _ (sized : allowed geometry ≡ true) (area : List ℕ) (value : ℕ) where
     switch-keeps : mayRun (device .registers) ≡ true → Rules geometry (switchOn geometry device area (bit value 1) .outcome .device)
@@ -71,7 +81,7 @@ module _ (geometry : Geometry) (device : Device) (keeps : Rules geometry device)
     effect-keeps Control = control-keeps
     effect-keeps EventSize = keeps
     effect-keeps Npages = keeps
-    effect-keeps Acceleration = keeps
+    effect-keeps Acceleration = acceleration-keeps value
     effect-keeps Isr = rules-isr keeps false
     effect-keeps ConfSize = keeps
     effect-keeps ClientRev = client-rev-keeps value

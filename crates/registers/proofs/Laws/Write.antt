@@ -17,8 +17,8 @@ use Rattle.access.specs.declared.Place.the-variants.{ConfSize, ClientRev, ReadP
 use Rattle.access.specs.Place.{placeOf}
 use Rattle.access.specs.Access.{accessAnswer}
 use Rattle.switch_on.specs.SwitchOn.{switchOn}
+use Rattle.device.specs.Revision.{mayRun}
 use Rattle.device.specs.Setters.{withControl}
-use Rattle.device.specs.State.{mayRun}
 use Rattle.device.specs.Result.{outcomeOf, resultOf}
 use Rattle.registers.specs.Write.{controlOf, effectOf, writeOf}
 use Rattle.access.proofs.Place.{the-type}
@@ -57,7 +57,7 @@ module _ (geometry : Geometry) (device : Device) (area : List ℕ) (value : ℕ)
 
 -- the places that have no effect of their own, by their numbers
 abbrev others : List ℕ
-others = 0 ∷ 1 ∷ 3 ∷ 4 ∷ 5 ∷ 7 ∷ 10 ∷ 11 ∷ 12 ∷ []
+others = 0 ∷ 1 ∷ 3 ∷ 4 ∷ 7 ∷ 10 ∷ 11 ∷ 12 ∷ []
 
 -- a write to one of them leaves all as it was
 pub no-effect : (geometry : Geometry) (device : Device) (area : List ℕ) (value : ℕ) (place : Place)
@@ -67,7 +67,7 @@ no-effect geometry device area value Rev h = refl
 no-effect geometry device area value Control h = absurd (miss others 2 tt h)
 no-effect geometry device area value EventSize h = refl
 no-effect geometry device area value Npages h = refl
-no-effect geometry device area value Acceleration h = refl
+no-effect geometry device area value Acceleration h = absurd (miss others 5 tt h)
 no-effect geometry device area value Isr h = absurd (miss others 6 tt h)
 no-effect geometry device area value ConfSize h = refl
 no-effect geometry device area value ClientRev h = absurd (miss others 8 tt h)

@@ -13,33 +13,38 @@ use Rattle.geometry.proofs.Laws.Slots.{few-slots}
 use Rattle.records.specs.Event.{AllFit}
 use Rattle.records.specs.Put.{Put}
 use Rattle.device.specs.declared.Device.{Device}
+use Rattle.device.specs.declared.Revision.{Revision}
+use Rattle.device.specs.declared.Revision.the-variants as revision
+use Rattle.device.specs.Revision.{revisionOf}
 use Rattle.device.specs.declared.Outcome.{Outcome}
 use Rattle.device.specs.Result.{Result}
-use Rattle.switch_on.specs.SwitchOn.{takenSlots, startRecords, clearedPointers, switchedOn, started, switchOn}
+use Rattle.switch_on.specs.SwitchOn.{recordsAtStart, startRecords, clearedPointers, switchedOn, started, switchOn}
 use Rattle.switch_on.proofs.Laws.Slots.{few-taken, slots-fit}
 
-start-count : (geometry : Geometry) (device : Device) → length (startRecords geometry device) ≡ length (takenSlots geometry device) + 1
-start-count geometry device = simp length-map (omega arith)
+-- at most one record more than slots
+at-most : (revision : Revision) (taken slots : ℕ) → length (recordsAtStart revision taken slots) ≤ slots + 1
+at-most revision.One taken slots = omega arith
+at-most revision.Two taken slots = simp length-map (omega (arith, few-taken taken 0 slots))
 
 -- what a write leaves is what a definition says
 abbrev pub Leaves : Outcome → List ℕ → Result → Type 0
 Leaves outcome after result = (outcome ≡ result .outcome) × (after ≡ result .area)
 
 module _ (geometry : Geometry) (device : Device) (area : List ℕ) (interrupts : Bool) {count : ℕ}
-    (counted : count ≡ length (takenSlots geometry device)) where
-  pub no-room : ringLength geometry - 1 < count + 1
+    (counted : count ≡ length (startRecords geometry device)) where
+  pub no-room : ringLength geometry - 1 < count
       → Leaves (record { answer = 7; device = device }) area (switchOn geometry device area interrupts)
   unfolding switchOn
   no-room h =
-      let test = lt-leb (length (startRecords geometry device)) (ringLength geometry - 1) (omega (arith, start-count geometry device)) in
+      let test = lt-leb (length (startRecords geometry device)) (ringLength geometry - 1) (omega arith) in
       (rw test, rw test)
 
-  pub starts : count + 1 ≤ ringLength geometry - 1 → {cleared after : List ℕ} {index : ℕ} {new : Device} → cleared ≡ clearedPointers area
+  pub starts : count ≤ ringLength geometry - 1 → {cleared after : List ℕ} {index : ℕ} {new : Device} → cleared ≡ clearedPointers area
       → Put (ringOf geometry) 0 (startRecords geometry device) cleared after index → new ≡ switchedOn interrupts index device
       → Leaves (record { answer = 0; device = new }) after (switchOn geometry device area interrupts)
   unfolding switchOn
   starts h clear put d =
-      let test = le-leb (length (startRecords geometry device)) (ringLength geometry - 1) (omega (arith, start-count geometry device)) in
+      let test = le-leb (length (startRecords geometry device)) (ringLength geometry - 1) (omega arith) in
       (rw (test, d, put .ends), put .holds ∙ rw (test, clear))
 
 -- ---- for every allowed geometry
@@ -49,7 +54,7 @@ module _ (geometry : Geometry) (device : Device) (sized : allowed geometry ≡ t
   pub start-fits : length (startRecords geometry device) ≤ ringLength geometry - 1
   start-fits =
       let s = sizes geometry sized in
-      omega (arith, start-count geometry device, few-taken (device .taken) 0 (slotCount geometry), few-slots geometry s)
+      omega (arith, at-most (revisionOf (device .registers)) (device .taken) (slotCount geometry), few-slots geometry s)
 
   -- so a switch-on is never refused
   pub always-starts : (area : List ℕ) (interrupts : Bool) → switchOn geometry device area interrupts
@@ -59,8 +64,11 @@ module _ (geometry : Geometry) (device : Device) (sized : allowed geometry ≡ t
 
   -- the numbers of its records are within the widths of an event's fields
   pub start-events-fit : AllFit (startRecords geometry device)
-  start-events-fit =
-      let s = sizes geometry sized in (
+  start-events-fit = go (revisionOf (device .registers))
+    where
+      go : (revision : Revision) → AllFit (recordsAtStart revision (device .taken) (slotCount geometry))
+      go revision.One = tt
+      go revision.Two = (
         record { kind-fits = omega arith; code-fits = omega arith; value-fits = omega arith },
-        slots-fit (device .taken) 0 (slotCount geometry) (omega (arith, few-slots geometry s)),
+        slots-fit (device .taken) 0 (slotCount geometry) (omega (arith, few-slots geometry (sizes geometry sized))),
       )

@@ -1,5 +1,6 @@
 //! Reads and writes by the guest.
 
+use super::revisions::any_acceleration;
 use super::ring_length;
 use crate::call::Call;
 use crate::random::Random;
@@ -42,7 +43,8 @@ pub fn any_access(random: &mut Random, world: &World) -> Call {
     }
     let value = match offset {
         CONTROL => random.pick(&[1, 3, 3, 1, 0, 2, u32::MAX]),
-        CLIENT_REV => random.pick(&[2, 2, 0, 1, 3, u32::MAX]),
+        CLIENT_REV => random.pick(&[2, 2, 1, 1, 0, 3, 257, 258, u32::MAX]),
+        ACCELERATION => any_acceleration(random),
         READ_PTR => any_pointer(random, world),
         _ => random.word(),
     };

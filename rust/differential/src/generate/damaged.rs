@@ -1,5 +1,6 @@
 //! A caller that passes broken states, buffers of wrong lengths and other sizes.
 
+use super::revisions::any_position;
 use super::{ring_length, slots, Action};
 use crate::random::Random;
 use crate::world::{Change, World};
@@ -70,16 +71,19 @@ pub fn other_geometry(random: &mut Random, mut geometry: Geometry) -> Geometry {
 }
 
 fn other_device(random: &mut Random, mut device: Device, geometry: Geometry) -> Device {
-    match random.below(10) {
+    match random.below(14) {
         0 => device.on = !device.on,
         1 => device.interrupts = !device.interrupts,
         2 => device.isr = !device.isr,
         3 => device.lost = !device.lost,
         4 => device.client_rev_written = !device.client_rev_written,
-        5 => device.client_rev = random.near(&[0, 1, 2, u32::MAX]),
-        6 => device.write_index = random.near(&[ring_length(geometry), 0, u32::MAX]),
-        7 => device.taken ^= 1 << random.below(64),
-        8 => device.taken = random.number() & random.number(),
+        5 => device.client_rev = random.pick(&[0, 1, 2, 3, 257, 258]),
+        6 => (device.client_rev_written, device.client_rev) = (random.once_in(2), random.below(4) as u16),
+        7 | 8 => device.acceleration = random.pick(&[0, 1, 10, 20, 21, 266]),
+        9 => device.position = any_position(random),
+        10 => device.write_index = random.near(&[ring_length(geometry), 0, u32::MAX]),
+        11 => device.taken ^= 1 << random.below(64),
+        12 => device.taken = random.number() & random.number(),
         _ => {
             device.current_slot = match random.below(4) {
                 0 => random.near(&[NO_SLOT, slots(geometry), 63]),

@@ -6,9 +6,10 @@ use crate::world::World;
 use thayarqo_model::device::NO_SLOT;
 use thayarqo_model::geometry::Geometry;
 
-/// evbits, absbits, relbits and btnbits of a mouse, a pen, a touch panel and a pedal board.
-const KINDS: [[u32; 7]; 4] = [
+/// evbits, absbits, relbits and btnbits of a mouse, a tablet with a mouse, a pen, a touch panel and a pedal board.
+const KINDS: [[u32; 7]; 5] = [
     [0b0111, 0, 0, 0x103, 0xFF0000, 0, 0],
+    [0b1111, 0x0000_0007, 0, 0x143, 0xFF0000, 0, 0],
     [0b1011, 0x0100_0003, 0, 0, 0, 0, 0x1C63],
     [0b1001, 0x8000, 0x0260_8000, 0, 0, 0, 0],
     [0b0011, 0, 0, 0, 0xFFFF, 0, 0x8000_0001],

@@ -1,8 +1,8 @@
 //! A guest that stores impossible pointers, and scribbles over pages that it may see.
 
 use super::accesses::{any_access, any_pointer};
+use super::traffic::any_step;
 use super::{ring_length, slots, Action};
-use crate::call::Call;
 use crate::random::Random;
 use crate::world::{Change, World};
 use thayarqo_model::device::NO_SLOT;
@@ -23,7 +23,7 @@ pub fn next(random: &mut Random, world: &World) -> Action {
             at: random.below(4096) as usize,
             bytes: some_bytes(random),
         }),
-        12 => Action::Call(Call::Step),
+        12 => Action::Call(any_step(random, world)),
         _ => Action::Call(any_access(random, world)),
     }
 }

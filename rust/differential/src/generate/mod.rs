@@ -6,6 +6,8 @@ mod entries;
 mod hostile;
 mod nodes;
 mod packets;
+mod revision1;
+mod revisions;
 mod ring;
 mod traffic;
 
@@ -19,8 +21,9 @@ pub(crate) use accesses::quiet_access;
 pub(crate) use damaged::other_geometry;
 pub(crate) use entries::plug_in;
 pub(crate) use packets::packet;
+pub(crate) use revisions::serve;
 pub(crate) use ring::{begin as begin_ring, event_bytes};
-pub(crate) use traffic::{add, remove, Phase};
+pub(crate) use traffic::{add, own_step, remove, Phase};
 
 /// The next thing that happens.
 #[derive(Clone, Debug)]

@@ -3,11 +3,12 @@
 use super::accesses::{any_access, write};
 use super::entries::{any_slot, random_entry, taken_slot};
 use super::packets::packet;
+use super::revisions::any_acceleration;
 use super::ring_length;
 use crate::call::Call;
 use crate::random::Random;
 use crate::world::World;
-use thayarqo_model::access::{CLIENT_REV, CONTROL, ISR, READ_PTR};
+use thayarqo_model::access::{ACCELERATION, CLIENT_REV, CONTROL, ISR, READ_PTR};
 use thayarqo_model::records::{READ_POINTER, WRITE_POINTER};
 
 /// Whether the host or the guest is the faster one just now.
@@ -43,7 +44,7 @@ pub fn next(random: &mut Random, world: &World, phase: Phase) -> Call {
 fn while_off(random: &mut Random, world: &World) -> Call {
     match random.below(10) {
         0..=3 => add(random, world),
-        4 | 5 => write(CLIENT_REV, random.pick(&[2, 2, 2, 2, 0, 1, 3])),
+        4 | 5 => write(CLIENT_REV, random.pick(&[2, 2, 2, 1, 1, 1, 0, 3])),
         6 | 7 => write(CONTROL, random.pick(&[1, 3, 3, 3, 2, 0])),
         _ => any(random, world),
     }
@@ -68,6 +69,7 @@ fn fresh_or_access(random: &mut Random, world: &World) -> Call {
         2..=4 => write(CONTROL, random.pick(&[0, 1, 2, 3])),
         5..=20 => write(ISR, random.word()),
         21..=40 => write(READ_PTR, next_pointer(random, world)),
+        41..=55 => write(ACCELERATION, any_acceleration(random)),
         _ => match any_access(random, world) {
             Call::Write { offset, width, .. } => Call::Read { offset, width },
             read => read,
@@ -112,7 +114,24 @@ fn guest(random: &mut Random, world: &World) -> Call {
     match random.below(8) {
         0 => copy_out(random, world),
         1 if random.once_in(4) => lookup(random, world),
-        _ => Call::Step,
+        _ => any_step(random, world),
+    }
+}
+
+/// Mostly a step of the reader that the device serves, and now and then one of the other.
+pub fn any_step(random: &mut Random, world: &World) -> Call {
+    step_in(world.device.is_revision1() != random.once_in(24))
+}
+
+/// A step of the reader that the device serves.
+pub fn own_step(world: &World) -> Call {
+    step_in(world.device.is_revision1())
+}
+
+fn step_in(revision1: bool) -> Call {
+    match revision1 {
+        true => Call::Revision1Step,
+        false => Call::Step,
     }
 }
 

@@ -1,7 +1,7 @@
 //! Lines, and the commands that they stand for.
 use super::{command, Command, Memory};
 use thayarqo::codes::{ABS_X, BTN_TOUCH, EV_SYN};
-use thayarqo::{Entry, Event};
+use thayarqo::{Entry, Event, Revision};
 
 #[test]
 fn a_packet_is_a_slot_and_pairs() {
@@ -80,9 +80,15 @@ fn steps_and_other_commands_are_repeated() {
 }
 
 #[test]
-fn the_switch_may_ask_for_interrupts() {
-    assert_eq!(command("on"), Ok(Command::On { interrupts: false }));
-    assert_eq!(command("on interrupts"), Ok(Command::On { interrupts: true }));
+fn the_switch_may_ask_for_a_revision_and_interrupts() {
+    for (line, revision, interrupts) in [
+        ("on", Revision::Two, false),
+        ("on interrupts", Revision::Two, true),
+        ("on revision 1", Revision::One, false),
+        ("on revision 2 interrupts", Revision::Two, true),
+    ] {
+        assert_eq!(command(line), Ok(Command::On { revision, interrupts }), "{line}");
+    }
 }
 
 #[test]
@@ -97,6 +103,9 @@ fn a_bad_line_is_told_by_what_is_wrong() {
         ("add 4", "NAME is missing"),
         ("add 4 pad SYN_REPORT", "SYN_REPORT can't be offered"),
         ("on interrupt", "interrupt isn't the word interrupts"),
+        ("on revision", "1 or 2 is missing"),
+        ("on revision 3", "3 is no revision"),
+        ("on revision 1 on", "on isn't the word interrupts"),
         ("off now", "now is one word too many"),
         ("read", "REGISTER or OFFSET is missing"),
         ("write ISR", "VALUE is missing"),

@@ -1,5 +1,5 @@
 //! The host's end of a device with a running guest.
-use super::{check_lengths, Shared, CLOSED, READ_PTR, RECORD_LENGTH, WRITE_PTR};
+use super::{check_area, check_page, Shared, CLOSED, READ_PTR, RECORD_LENGTH, WRITE_PTR};
 use crate::device::Device;
 use crate::entry::Entry;
 use crate::event::Packet;
@@ -22,7 +22,8 @@ impl<'a> LiveDevice<'a> {
     ///
     /// [`Invalid`]: crate::Refusal::Invalid
     pub fn new(geometry: Geometry, area: Shared<'a>, page: Shared<'a>) -> Answer<LiveDevice<'a>> {
-        check_lengths(geometry, area, page)?;
+        check_area(geometry, area)?;
+        check_page(page)?;
         let device = Device::new(geometry);
         area.copy_out(0, device.area());
         page.copy_out(0, device.page());
@@ -106,30 +107,39 @@ impl<'a> LiveDevice<'a> {
         Ok(())
     }
 
-    /// Copies out the records from the first one to the write index, and then announces them.
+    /// Copies out the records from the first one to the write index, and then announces them. In revision 1 there may be none.
     fn publish_records(&self, first: u32) {
-        let last = self.device.write_index();
+        if first != self.device.write_index() {
+            self.copy_out_records(first);
+            self.announce();
+        }
+    }
+
+    fn copy_out_records(&self, first: u32) {
         let geometry = self.device.geometry();
         let mut index = first;
-        while index != last {
+        while index != self.device.write_index() {
             let place = geometry.record_place(index);
             self.area
                 .copy_out(place, &self.device.area()[place..place + RECORD_LENGTH]);
             index = (index + 1) % geometry.ring_length();
         }
-        if first != last {
-            self.area.store(WRITE_PTR, last, Ordering::Release);
-        }
+    }
+
+    /// Release: all that was copied out is seen with the new WRITE_PTR.
+    fn announce(&self) {
+        self.area.store(WRITE_PTR, self.device.write_index(), Ordering::Release);
     }
 
     /// A switch-on changes both pointers, and there is no way to store them at once: with only one of them new, old records would
     /// look unread. So WRITE_PTR first becomes impossible, which keeps a driver that looks meanwhile from reading anything; the fence
     /// has that seen before what follows. Then READ_PTR and the first records, in any order, and last the new WRITE_PTR, which tells
-    /// that all this is in place.
+    /// that all this is in place. Revision 1 has no first records: the new WRITE_PTR is 0, and has to be stored all the same.
     fn publish_restart(&self) {
         self.area.store(WRITE_PTR, CLOSED, Ordering::Relaxed);
         fence(Ordering::Release);
         self.area.store(READ_PTR, 0, Ordering::Relaxed);
-        self.publish_records(0);
+        self.copy_out_records(0);
+        self.announce();
     }
 }

@@ -1,6 +1,7 @@
 //! One end's calls in the middle of the other's: before an access to shared words the other end may run. Threads seldom meet at the
 //! places that matter; here they do, and in the same way in each run.
 mod device;
+mod revision1;
 mod ring;
 
 use super::Shared;

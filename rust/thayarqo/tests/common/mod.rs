@@ -1,9 +1,10 @@
 //! What the tests of live guests share: guarded memory, digests of logs, and random numbers.
 #![allow(dead_code, reason = "each test uses a part")]
 use std::sync::atomic::{AtomicBool, AtomicU32, Ordering};
+use thayarqo::codes::{BTN_LEFT, REL_X};
 use thayarqo::live::{LiveDevice, LiveDriver, Shared};
 use thayarqo::register::{CLIENT_REV, CONTROL, CONTROL_ON};
-use thayarqo::{Answer, Geometry, Packet};
+use thayarqo::{Answer, Entry, Event, Geometry, Packet, Revision};
 
 const GUARD: u32 = 0xA5A5_A5A5;
 const GUARD_WORDS: usize = 16;
@@ -47,9 +48,25 @@ impl Guarded {
     }
 }
 
-pub fn switch_on(device: &mut LiveDevice) -> Answer<()> {
-    device.write(CLIENT_REV, 4, 2)?;
+/// A guest of revision 1 says nothing of its revision.
+pub fn switch_on(device: &mut LiveDevice, revision: Revision) -> Answer<()> {
+    if revision == Revision::Two {
+        device.write(CLIENT_REV, 4, 2)?;
+    }
     device.write(CONTROL, 4, CONTROL_ON)
+}
+
+/// A mouse with the events of [`clicks`].
+pub fn mouse() -> Entry {
+    let mouse = Entry::new("mouse").offer_rel();
+    mouse.offer_key(BTN_LEFT).expect("a button's code")
+}
+
+/// So many events that both revisions take: a movement and clicks.
+pub fn clicks(count: usize) -> Vec<Event> {
+    let mut events = vec![Event::key(BTN_LEFT, true); count];
+    events[0] = Event::rel(REL_X, 1);
+    events
 }
 
 /// A mark that a thread sets where it ends, also by a panic: no other thread waits for it in vain.

@@ -8,7 +8,7 @@ use Rattle.geometry.proofs.Laws.Allowed.{sizes}
 use Rattle.records.specs.Codes.{DEV-CONF, devRecord}
 use Rattle.device.proofs.Laws.Call.{Call, call}
 use Rattle.hotplug.specs.Add.{addAnswer}
-use Rattle.hotplug.proofs.Laws.Accepted.{records-if}
+use Rattle.hotplug.proofs.Laws.Accepted.{needed}
 use borrow.Author.Needs.{needs}
 use Rattle.hotplug.proofs.add.add_refusal.Statement.{statement}
 use Rattle.hotplug.proofs.add.add_refusal.Tie as tie
@@ -93,24 +93,29 @@ returns-5 c =
       c .if5 .taken,
     )
 
+tells-requires : tie.Need-tells-requires
+tells-requires c κs = search needs
+
 bit-of-requires : tie.Need-bit-of-requires
 bit-of-requires c κs = search needs
 
 ring-of-requires : tie.Need-ring-of-requires
 ring-of-requires c κs =
-    let third = c .before .before .before .before .before in
+    let third = c .before .before .before .before .before .before in
     known (third .before .before .before .before) .is-allowed
 
 room-refusal-requires : tie.Need-room-refusal-requires
 room-refusal-requires c κs =
-    let third = c .before .before .before .before .before .before in
+    let counted = c .before .before .before in
+    let third = counted .before .before .before .before in
     let k = known (third .before .before .before .before) in
     rw (c .ring-of .ensures) (k .holds, k .keeps .write-inside)
 
 returns-6 : tie.Need-returns-6
 unfolding addAnswer firstRefusal
 returns-6 c =
-    let fifth = c .before .before .before in
+    let counted = c .before .before in
+    let fifth = counted .before .before in
     let fourth = fifth .before .before in
     let third = fourth .before .before in
     let second = third .before .before in
@@ -129,7 +134,7 @@ returns-6 c =
     )
     (c .room-refusal .ensures
     ∙ rw (
-      c .before .before .bit-of .ensures .0 ∙ records-if (a .device .registers .on) (devRecord DEV-CONF (a .slot)),
+      needed (a .device .registers) (devRecord DEV-CONF (a .slot)) (counted .before .tells .ensures) (counted .bit-of .ensures .0),
       c .before .ring-of .ensures,
     ))
 
@@ -147,6 +152,7 @@ add-refusal-spec =
     returns-4
     is-present-requires
     returns-5
+    tells-requires
     bit-of-requires
     ring-of-requires
     room-refusal-requires

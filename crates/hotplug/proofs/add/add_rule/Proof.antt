@@ -46,18 +46,22 @@ write-entry-requires c κs =
 ring-of-requires : tie.Need-ring-of-requires
 ring-of-requires c κs = accepted (c .before .before .before .before) .shared .known .is-allowed
 
+tells-requires : tie.Need-tells-requires
+tells-requires c κs = search needs
+
 dev-record-requires : tie.Need-dev-record-requires
 dev-record-requires c κs = search needs
 
 put-if-requires : tie.Need-put-if-requires
 put-if-requires c κs =
-    let ring = c .before .before in
+    let ring = c .before .before .before in
     let k = accepted (ring .before .before .before .before .before) .shared .known in
     rw (ring .ring-of .ensures) (k .holds, k .keeps .write-inside)
 
 set-requires : tie.Need-set-requires
 set-requires c κs =
-    let ring = c .before .before .before .before .before .before in
+    let put = c .before .before .before in
+    let ring = put .before .before .before .before in
     let k = accepted (ring .before .before .before .before .before) in
     (k .shared .is-bit, k .free)
 
@@ -73,13 +77,13 @@ same-length-4 c = search needs
 returns-2 : tie.Need-returns-2
 returns-2 c =
     let put = c .before .before .before .before .before in
-    let ring = put .before .before .before in
+    let ring = put .before .before .before .before in
     let wrote = ring .before .before .before in
     let judged = wrote .before .before .before in
     let a = judged .before .before .before .before .before .before .args in
     added (a .geometry) (a .device) (a .area .now) (a .page .now) (a .slot) (a .entry .now)
     (none (wrote .before .before))
-    (rw (ring .ring-of .ensures, put .before .dev-record .ensures) at (put .put-if .ensures))
+    (rw (ring .ring-of .ensures, put .before .dev-record .ensures, put .before .before .before .tells .ensures) at (put .put-if .ensures))
     (wrote .write-entry .ensures) (c .before .set .ensures) (c .answered2 .ensures)
 
 pub add-rule-spec : {M : Type 1} → statement M
@@ -93,6 +97,7 @@ add-rule-spec =
     returns
     write-entry-requires
     ring-of-requires
+    tells-requires
     dev-record-requires
     put-if-requires
     set-requires

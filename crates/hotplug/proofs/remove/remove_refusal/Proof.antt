@@ -6,7 +6,7 @@ use Rattle.answers.specs.Refusals.{firstRefusal}
 use Rattle.records.specs.Codes.{DEV-RESET, devRecord}
 use Rattle.device.proofs.Laws.Call.{Call, call}
 use Rattle.hotplug.specs.Remove.{removeAnswer}
-use Rattle.hotplug.proofs.Laws.Accepted.{records-if}
+use Rattle.hotplug.proofs.Laws.Accepted.{needed}
 use borrow.Author.Needs.{needs}
 use Rattle.hotplug.proofs.remove.remove_refusal.Statement.{statement}
 use Rattle.hotplug.proofs.remove.remove_refusal.Tie as tie
@@ -32,27 +32,31 @@ returns-2 c =
     let first = c .before .before in
     rw (← first .before .is-valid-call .ensures, first .if1 .left, ← c .before .is-taken .ensures, c .if2 .taken)
 
+tells-requires : tie.Need-tells-requires
+tells-requires c κs = search needs
+
 bit-of-requires : tie.Need-bit-of-requires
 bit-of-requires c κs = search needs
 
 ring-of-requires : tie.Need-ring-of-requires
-ring-of-requires c κs = known (c .before .before .before) .is-allowed
+ring-of-requires c κs = known (c .before .before .before .before) .is-allowed
 
 room-refusal-requires : tie.Need-room-refusal-requires
 room-refusal-requires c κs =
-    let k = known (c .before .before .before .before) in
+    let k = known (c .before .before .before .before .before) in
     rw (c .ring-of .ensures) (k .holds, k .keeps .write-inside)
 
 returns-3 : tie.Need-returns-3
 unfolding removeAnswer firstRefusal
 returns-3 c =
-    let second = c .before .before .before in
+    let counted = c .before .before in
+    let second = counted .before .before in
     let first = second .before .before in
     let a = first .before .before .before .before .args in
     rw (← first .before .is-valid-call .ensures, first .if1 .left, ← second .before .is-taken .ensures, second .if2 .left)
     (c .room-refusal .ensures
     ∙ rw (
-      c .before .before .bit-of .ensures .0 ∙ records-if (a .device .registers .on) (devRecord DEV-RESET (a .slot)),
+      needed (a .device .registers) (devRecord DEV-RESET (a .slot)) (counted .before .tells .ensures) (counted .bit-of .ensures .0),
       c .before .ring-of .ensures,
     ))
 
@@ -64,6 +68,7 @@ remove-refusal-spec =
     returns
     is-taken-requires
     returns-2
+    tells-requires
     bit-of-requires
     ring-of-requires
     room-refusal-requires

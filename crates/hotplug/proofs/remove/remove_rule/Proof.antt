@@ -43,12 +43,15 @@ clear-entry-requires c κs =
 ring-of-requires : tie.Need-ring-of-requires
 ring-of-requires c κs = accepted (c .before .before .before .before) .shared .known .is-allowed
 
+tells-requires : tie.Need-tells-requires
+tells-requires c κs = search needs
+
 dev-record-requires : tie.Need-dev-record-requires
 dev-record-requires c κs = search needs
 
 put-if-requires : tie.Need-put-if-requires
 put-if-requires c κs =
-    let ring = c .before .before in
+    let ring = c .before .before .before in
     let k = accepted (ring .before .before .before .before .before) .shared .known in
     rw (ring .ring-of .ensures) (k .holds, k .keeps .write-inside)
 
@@ -58,7 +61,7 @@ current-without-requires c κs = search needs
 clear-requires : tie.Need-clear-requires
 clear-requires c κs =
     let put = c .before .before .before .before .before in
-    let ring = put .before .before .before in
+    let ring = put .before .before .before .before in
     let k = accepted (ring .before .before .before .before .before) in
     (k .shared .is-bit, k .taken)
 
@@ -75,13 +78,13 @@ returns-2 : tie.Need-returns-2
 returns-2 c =
     let left = c .before .before .before .before in
     let put = left .before .before .before in
-    let ring = put .before .before .before in
+    let ring = put .before .before .before .before in
     let cleared = ring .before .before .before in
     let judged = cleared .before .before .before in
     let a = judged .before .before .before .before .before .args in
     removed (a .geometry) (a .device) (a .area .now) (a .page .now) (a .slot)
     (none (cleared .before .before))
-    (rw (ring .ring-of .ensures, put .before .dev-record .ensures) at (put .put-if .ensures))
+    (rw (ring .ring-of .ensures, put .before .dev-record .ensures, put .before .before .before .tells .ensures) at (put .put-if .ensures))
     (cleared .clear-entry .ensures) (c .before .clear .ensures) (left .current-without .ensures) (c .answered2 .ensures)
 
 pub remove-rule-spec : {M : Type 1} → statement M
@@ -95,6 +98,7 @@ remove-rule-spec =
     returns
     clear-entry-requires
     ring-of-requires
+    tells-requires
     dev-record-requires
     put-if-requires
     current-without-requires

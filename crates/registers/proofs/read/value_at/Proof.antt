@@ -39,6 +39,9 @@ enum-told-5 c = search needs
 enum-told-6 : tie.Need-enum-told-6
 enum-told-6 c = search needs
 
+acceleration-requires : tie.Need-acceleration-requires
+acceleration-requires c κs = search needs
+
 enum-told-7 : tie.Need-enum-told-7
 enum-told-7 c = search needs
 
@@ -50,6 +53,9 @@ enum-told-8 c = search needs
 
 enum-told-9 : tie.Need-enum-told-9
 enum-told-9 c = search needs
+
+cast-result : tie.Need-cast-result
+cast-result c = search needs
 
 enum-told-10 : tie.Need-enum-told-10
 enum-told-10 c = search needs
@@ -106,7 +112,7 @@ returns-5 : tie.Need-returns-5
 returns-5 c = rw (sym (c .before .before .place-of .ensures) ∙ c .enum-told5 .given .1)
 
 returns-6 : tie.Need-returns-6
-returns-6 c = rw (sym (c .before .before .place-of .ensures) ∙ c .enum-told6 .given .1)
+returns-6 c = rw (sym (c .before .before .before .place-of .ensures) ∙ c .before .enum-told6 .given .1, c .acceleration .ensures)
 
 returns-7 : tie.Need-returns-7
 returns-7 c = rw (sym (c .before .before .before .place-of .ensures) ∙ c .before .enum-told7 .given .1, c .bit-of .ensures .0)
@@ -115,7 +121,7 @@ returns-8 : tie.Need-returns-8
 returns-8 c = rw (sym (c .before .before .place-of .ensures) ∙ c .enum-told8 .given .1)
 
 returns-9 : tie.Need-returns-9
-returns-9 c = rw (sym (c .before .before .place-of .ensures) ∙ c .enum-told9 .given .1)
+returns-9 c = rw (sym (c .before .before .before .place-of .ensures) ∙ c .before .enum-told9 .given .1)
 
 returns-10 : tie.Need-returns-10
 returns-10 c = rw (sym (c .before .before .before .place-of .ensures) ∙ c .before .enum-told10 .given .1, c .read-u32 .ensures)
@@ -147,10 +153,12 @@ value-at-spec =
     enum-told-4
     enum-told-5
     enum-told-6
+    acceleration-requires
     enum-told-7
     bit-of-requires
     enum-told-8
     enum-told-9
+    cast-result
     enum-told-10
     read-u32-requires
     enum-told-11

@@ -1,0 +1,3 @@
+pub mod Gesture
+pub mod Scan
+pub mod Form

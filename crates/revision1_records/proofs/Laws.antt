@@ -1,0 +1,3 @@
+-- By subject: how many records a packet gives, and its buttons.
+pub mod Count
+pub mod Buttons
