@@ -3,6 +3,7 @@ use crate::Device;
 use crate::Producer;
 use crate::Registers;
 use records::codes::NO_SLOT;
+use revision1_records::Position;
 ghost use mathlib.Core.Path.{_≡_};
 ghost use mathlib.Core.Bool.{_&&_};
 ghost use Rattle.device.specs.State.{freshRegisters, freshProducer, freshDevice, isTaken, isAcceleration};
@@ -24,7 +25,7 @@ fn fresh_registers() -> Registers
 pub fn fresh_producer() -> Producer
     ensures { λ r. ⌜ r ≡ freshProducer ⌝ }
 {
-    let position = revision1_records::origin();
+    let position = Position { x: 0, y: 0 };
     Producer {
         write_index: 0,
         current_slot: NO_SLOT,

@@ -22,15 +22,8 @@ ghost use Rattle.records.specs.Ring.{Holds};
 ghost use Rattle.records.specs.Put.{recordIf, Put};
 ghost use Rattle.revision1_gestures.specs.Gesture.{isButton, buttonCount, gestureOf};
 ghost use Rattle.revision1_gestures.specs.Form.{isPosition};
-ghost use Rattle.revision1_records.specs.Records as spec;
 ghost use Rattle.revision1_records.specs.Records.{valueOr, positionAfter, hasRelative, hasAbsolute, relativeRecord, absoluteRecord};
 ghost use Rattle.revision1_records.specs.Records.{buttonRecord, buttonRecords, wheelRecord, partsOf, groupOf, recordCount};
-
-pub fn origin() -> Position
-    ensures { λ r. ⌜ r ≡ spec.origin ⌝ }
-{
-    Position { x: 0, y: 0 }
-}
 
 fn value_or(last: u16, axis: Axis) -> u16
     requires { ⌜ axis .value ≤ 65535 ⌝ }

@@ -2,7 +2,6 @@
 mod flags;
 mod group;
 
-pub use group::origin;
 pub use group::position_after;
 pub use group::put_group;
 pub use group::record_count;
