@@ -1,3 +1,4 @@
 pub mod Entry
 pub mod Lookup
 pub mod Offer
+pub mod QuickerOfferTest

@@ -5,7 +5,9 @@ use answers::BAD_SLOT;
 use answers::DONE;
 use answers::INVALID;
 use geometry::Geometry;
+use offer::has_type;
 pub use offer::is_offered;
+use records::codes::EV_SYN;
 ghost use mathlib.Core.Path.{_≡_};
 ghost use mathlib.Core.Bool.{true};
 ghost use Prim.Native.Nat.{_+_, _≤_, _<_};
@@ -44,7 +46,7 @@ pub fn is_present(entry: &[u8]) -> bool
     requires { ⌜ 44 ≤ length (now entry) ⌝ }
     ensures { λ r. ⌜ r ≡ isPresent (now (entry .entry)) ⌝ }
 {
-    bits::is_set(words::read_u32(entry, EVBITS) as u64, 0)
+    has_type(entry, EV_SYN)
 }
 
 fn lookup_refusal(geometry: Geometry, page: &[u8], slot: u32) -> u8

@@ -1,43 +1,60 @@
--- The code is asked before the type's bit, as in the definition: a code that isn't offered settles the conjunction.
+-- At each type the definition is what the type's own function answers. Above ABS, and so for a type that is none of the four, it is no.
 use mathlib.Core.Path.{sym, _∙_}
-use borrow.Author.Tests.{not-true, not-false}
-use Rattle.entries.specs.Offer.{isOffered}
+use native.Mathlib.Omega.{arith}
+use Rattle.entries.proofs.Laws.Offer.{of-reports, of-buttons, of-relative, of-absolute, of-others}
 use borrow.Author.Needs.{needs}
 use Rattle.entries.proofs.offer.is_offered.Statement.{statement}
 use Rattle.entries.proofs.offer.is_offered.Tie as tie
 
-offers-code-requires : tie.Need-offers-code-requires
-offers-code-requires c κs = search needs
+offers-relative-requires : tie.Need-offers-relative-requires
+offers-relative-requires c κs = search needs
 
 returns : tie.Need-returns
-unfolding isOffered
-returns c = rw (sym (c .before .offers-code .ensures) ∙ not-true _ (c .if1 .taken))
+returns c =
+    let a = c .before .before .before .args in
+    c .offers-relative .ensures ∙ sym (of-relative (a .entry .now) (a .event) (c .before .if1 .taken))
 
-read-u32-requires : tie.Need-read-u32-requires
-read-u32-requires c κs = search needs
-
-cast-is-set : tie.Need-cast-is-set
-cast-is-set c = search needs
-
-cast-is-set-2 : tie.Need-cast-is-set-2
-cast-is-set-2 c = search needs
-
-is-set-requires : tie.Need-is-set-requires
-is-set-requires c κs = search needs
+offers-absolute-requires : tie.Need-offers-absolute-requires
+offers-absolute-requires c κs = search needs
 
 returns-2 : tie.Need-returns-2
-unfolding isOffered
-returns-2 c = rw (sym (c .before .before .before .before .offers-code .ensures) ∙ not-false _ (c .before .before .before .if1 .left))
-    (c .is-set .ensures ∙ rw (c .before .before .read-u32 .ensures))
+returns-2 c =
+    let a = c .before .before .before .before .before .args in
+    c .offers-absolute .ensures ∙ sym (of-absolute (a .entry .now) (a .event) (c .before .if3 .taken))
+
+returns-3 : tie.Need-returns-3
+returns-3 c =
+    let a = c .before .before .before .before .args in
+    sym (of-others (a .entry .now) (a .event) (omega (arith, c .before .if2 .taken, c .if3 .left)))
+
+offers-button-requires : tie.Need-offers-button-requires
+offers-button-requires c κs = search needs
+
+returns-4 : tie.Need-returns-4
+returns-4 c =
+    let a = c .before .before .before .before .before .args in
+    c .offers-button .ensures ∙ sym (of-buttons (a .entry .now) (a .event) (c .before .if4 .taken))
+
+offers-report-requires : tie.Need-offers-report-requires
+offers-report-requires c κs = search needs
+
+returns-5 : tie.Need-returns-5
+returns-5 c =
+    let a = c .before .before .before .before .before .args in
+    let low = c .before .before in
+    c .offers-report .ensures
+    ∙ sym (of-reports (a .entry .now) (a .event) (omega (arith, c .before .if4 .left, low .if2 .left, low .before .if1 .left)))
 
 pub is-offered-spec : {M : Type 1} → statement M
 is-offered-spec =
     tie.close
     (tie.spec
-    offers-code-requires
+    offers-relative-requires
     returns
-    read-u32-requires
-    cast-is-set
-    cast-is-set-2
-    is-set-requires
-    returns-2)
+    offers-absolute-requires
+    returns-2
+    returns-3
+    offers-button-requires
+    returns-4
+    offers-report-requires
+    returns-5)
