@@ -33,6 +33,8 @@ finds! {
     entries_stepped_at_68: EntriesSteppedAt68,
     button_bits_from_zero: ButtonBitsFromZero,
     relbits_consulted: RelbitsConsulted,
+    mask_word_by_64: MaskWordBy64,
+    type_bit_not_consulted: TypeBitNotConsulted,
     interrupts_read_at_bit_2: InterruptsReadAtBit2,
     read_only_before_no_register: ReadOnlyBeforeNoRegister,
     isr_not_cleared: IsrNotCleared,

@@ -33,10 +33,10 @@ impl Model {
             EV_SYN => event.code == SYN_MT_REPORT,
             EV_KEY => self.is_button_offered(entry, code),
             EV_REL => code < 32 && (!self.has(Fault::RelbitsConsulted) || bit(entry, RELBITS, code)),
-            EV_ABS => code < 64 && bit(entry, ABSBITS, code),
+            EV_ABS => code < 64 && self.mask_bit(entry, ABSBITS, code),
             _ => false,
         };
-        code_is_offered && bit(entry, EVBITS, u32::from(event.kind))
+        code_is_offered && (self.has(Fault::TypeBitNotConsulted) || bit(entry, EVBITS, u32::from(event.kind)))
     }
 
     fn is_button_offered(self, entry: &[u8], code: u32) -> bool {
@@ -45,8 +45,16 @@ impl Model {
             false => FIRST_BUTTON,
         };
         match code.checked_sub(first) {
-            Some(number) => number < BUTTONS && bit(entry, BTNBITS, number),
+            Some(number) => number < BUTTONS && self.mask_bit(entry, BTNBITS, number),
             None => false,
+        }
+    }
+
+    /// A code's bit of a mask.
+    fn mask_bit(self, entry: &[u8], mask: usize, number: u32) -> bool {
+        match self.has(Fault::MaskWordBy64) {
+            true => bit(entry, mask + number as usize / 64 * 4, number % 32),
+            false => bit(entry, mask, number),
         }
     }
 }

@@ -30,6 +30,10 @@ faults! {
     ButtonBitsFromZero,
     /// A relative code needs its bit of relbits.
     RelbitsConsulted,
+    /// The word that holds a code's bit is found by a division by 64.
+    MaskWordBy64,
+    /// The type's own bit of evbits isn't needed.
+    TypeBitNotConsulted,
 
     // Registers
     /// CONTROL reads the interrupts at bit 2.
