@@ -4,6 +4,7 @@
  */
 #include "call.h"
 #include "compare.h"
+#include "counts.h"
 #include "work.h"
 
 #include <stdio.h>
@@ -152,13 +153,13 @@ static void measure_growth_of_slots(void)
     measure_row("slot 0, all taken", packet_and_steps, usual, 60, GROWTH_ROUNDS);
 }
 
-static void measure_growth_of_events(void)
+static void measure_growth_of_events(const char *what, work *work)
 {
     char name[40];
-    print_heading("packet and steps, by events");
+    print_heading(what);
     for (packet_events = 1; packet_events <= 32; packet_events *= 2) {
         snprintf(name, sizeof name, "%u events", packet_events);
-        measure_row(name, packet_and_steps, usual, 1, GROWTH_ROUNDS);
+        measure_row(name, work, usual, 1, GROWTH_ROUNDS);
     }
     packet_events = 3;
 }
@@ -173,8 +174,13 @@ static void measure_ring_kinds(void)
     ring_kind = RING_KINDS;
 }
 
-int main(void)
+/* Four arguments ask for puts alone, which `bench/counts` lets callgrind count. */
+int main(int argc, char **argv)
 {
+    if (argc == 5) {
+        make_puts(argv[1], argv[2], (uint32_t)atoi(argv[3]), (uint32_t)atoi(argv[4]));
+        return 0;
+    }
     print_machine();
     compare_contestants();
     prepare_work();
@@ -182,7 +188,8 @@ int main(void)
     measure_all_copies();
     measure_growth_of_sizes();
     measure_growth_of_slots();
-    measure_growth_of_events();
+    measure_growth_of_events("packet put, by events", packet_put);
+    measure_growth_of_events("packet and steps, by events", packet_and_steps);
     measure_ring_kinds();
     return 0;
 }

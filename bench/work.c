@@ -12,18 +12,35 @@ static uint8_t events[PACKET];
 static uint8_t ring_events[RING_KINDS][THAYARQO_RING_EVENT_LENGTH];
 static struct thayarqo_ring_event motion;
 
-/* What a mouse says: how far it moved, a button, an axis. The first four have a form in revision 1 too. */
-void prepare_work(void)
+void fill_mouse(uint8_t *packet)
 {
     for (uint32_t i = 0; i < PACKET / 8; i += 4) {
-        store_event(events + 8 * i, EV_REL, REL_X, i);
-        store_event(events + 8 * i + 8, EV_REL, REL_Y, i);
-        store_event(events + 8 * i + 16, EV_KEY, BTN_LEFT, 1);
-        store_event(events + 8 * i + 24, EV_ABS, ABS_X, i);
+        store_event(packet + 8 * i, EV_REL, REL_X, i);
+        store_event(packet + 8 * i + 8, EV_REL, REL_Y, i);
+        store_event(packet + 8 * i + 16, EV_KEY, BTN_LEFT, 1);
+        store_event(packet + 8 * i + 24, EV_ABS, ABS_X, i);
     }
+}
+
+void prepare_work(void)
+{
+    fill_mouse(events);
     for (uint32_t kind = 0; kind < RING_KINDS; kind++)
         fill_ring_event(ring_events[kind], kind, 1000 + kind);
     motion = ring_event(0, 1000);
+}
+
+uint64_t packet_put(const struct contestant *contestant, struct world *world, uint32_t times)
+{
+    uint64_t sum = 0;
+    size_t length = area_length(world);
+    for (uint32_t i = 0; i < times; i++) {
+        sum += contestant->put_packet(&world->device, world->geometry, world->area, length, world->page, PAGE, packet_slot,
+                                      events, 8 * packet_events);
+        sum += world->device.write_index;
+        empty(world);
+    }
+    return sum;
 }
 
 uint64_t packet_and_steps(const struct contestant *contestant, struct world *world, uint32_t times)

@@ -13,6 +13,12 @@ extern uint32_t ring_kind;
 
 void prepare_work(void);
 
+/* What a mouse says, in a packet of 32 events: how far it moved, a button, an axis. The first four have a form in revision 1 too. */
+void fill_mouse(uint8_t *packet);
+
+/* A packet put. The ring is then emptied by its pointers. */
+work packet_put;
+
 /* A packet put, and read by steps until nothing is left. */
 work packet_and_steps, revision1_packet_and_steps;
 

@@ -53,6 +53,11 @@ void start(struct world *world, struct thayarqo_geometry geometry, uint32_t slot
         ;
 }
 
+void empty(struct world *world)
+{
+    memcpy(world->area, world->area + 4, 4);
+}
+
 static bool same_device(const struct thayarqo_device *left, const struct thayarqo_device *right)
 {
     return left->on == right->on && left->interrupts == right->interrupts && left->isr == right->isr

@@ -24,6 +24,9 @@ struct world {
  */
 void start(struct world *world, struct thayarqo_geometry geometry, uint32_t slots, uint32_t client_rev);
 
+/* Moves READ_PTR to WRITE_PTR, as a driver that has read everything. */
+void empty(struct world *world);
+
 size_t area_length(const struct world *world);
 uint32_t ring_length(const struct world *world);
 
