@@ -100,21 +100,22 @@ fn offers_absolute(entry: &[u8], code: u16) -> bool
     mask_bit(entry, ABSBITS, code)
 }
 
-// Motions come most often. The others are parted by a compare, since four equations in a row would become a jump by a table.
+// By compares, one of which is no equation: four equations would become a jump through a table. Axes of a panel come most often, several
+// for each finger.
 pub fn is_offered(entry: &[u8], event: Event) -> bool
     requires { ⌜ length (now entry) ≡ 68 ⌝ }
     ensures { λ r. ⌜ r ≡ isOffered (now (entry .entry)) event ⌝ }
 {
     let kind = event.kind;
     let code = event.code;
-    if kind == EV_REL {
-        return offers_relative(entry, code);
-    }
     if kind > EV_REL {
         if kind == EV_ABS {
             return offers_absolute(entry, code);
         }
         return false;
+    }
+    if kind == EV_REL {
+        return offers_relative(entry, code);
     }
     if kind == EV_KEY {
         return offers_button(entry, code);
