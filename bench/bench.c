@@ -174,11 +174,15 @@ static void measure_ring_kinds(void)
     ring_kind = RING_KINDS;
 }
 
-/* Four arguments ask for puts alone, which `bench/counts` lets callgrind count. */
+/* Four arguments ask for puts alone, which `bench/counts` lets callgrind count, and the word compare for the comparison alone. */
 int main(int argc, char **argv)
 {
     if (argc == 5) {
         make_puts(argv[1], argv[2], (uint32_t)atoi(argv[3]), (uint32_t)atoi(argv[4]));
+        return 0;
+    }
+    if (argc == 2 && strcmp(argv[1], "compare") == 0) {
+        compare_contestants();
         return 0;
     }
     print_machine();

@@ -1,5 +1,5 @@
--- The quicker offer test (02, E2): to ask for one word and one bit of it answers, for every entry, type and code, as to go through all
--- codes of the type that the entry offers.
+-- The quicker offer test (02, E2): for every entry, type and code, one bit of one word answers what going through all codes that the
+-- entry offers would answer.
 use Prim.Native.Nat.{ℕ, zero, suc}
 use mathlib.Core.Path.{_≡_}
 use mathlib.Core.Bool.{Bool, true, false, _||_, cond}
@@ -17,7 +17,8 @@ codesFrom isSet first zero = []
 codesFrom isSet first (suc count) =
     cond (isSet first) (first ∷ codesFrom isSet (suc first) count) (codesFrom isSet (suc first) count)
 
--- All codes of a type that an entry offers (01, "Writing records"): none without the type's evbits bit.
+-- All codes of a type that an entry offers (01, "Writing records"). Without the type's evbits bit there are none. SYN has one, KEY those of
+-- 0x100 to 0x15F that have a bit, REL all below 32, ABS those below 64 that have a bit, and any other type none.
 unfoldable pub offeredCodes : List ℕ → ℕ → List ℕ
 offeredCodes entry kind =
     cond (bit (evbits entry) kind)
@@ -27,6 +28,7 @@ offeredCodes entry kind =
     (cond (eqb kind EV-ABS) (codesFrom (absoluteBit entry) 0 64) []))))
     []
 
+-- Whether a code is one of them, asked one after the other.
 unfoldable pub isAmong : ℕ → List ℕ → Bool
 isAmong code [] = false
 isAmong code (first ∷ rest) = eqb code first || isAmong code rest
