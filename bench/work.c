@@ -30,13 +30,18 @@ void prepare_work(void)
     motion = ring_event(0, 1000);
 }
 
+static inline uint8_t put(const struct contestant *contestant, struct world *world, size_t length)
+{
+    return contestant->put_packet(&world->device, world->geometry, world->area, length, world->page, PAGE, packet_slot,
+                                  events, 8 * packet_events);
+}
+
 uint64_t packet_put(const struct contestant *contestant, struct world *world, uint32_t times)
 {
     uint64_t sum = 0;
     size_t length = area_length(world);
     for (uint32_t i = 0; i < times; i++) {
-        sum += contestant->put_packet(&world->device, world->geometry, world->area, length, world->page, PAGE, packet_slot,
-                                      events, 8 * packet_events);
+        sum += put(contestant, world, length);
         sum += world->device.write_index;
         empty(world);
     }
@@ -48,8 +53,7 @@ uint64_t packet_and_steps(const struct contestant *contestant, struct world *wor
     uint64_t sum = 0;
     size_t length = area_length(world);
     for (uint32_t i = 0; i < times; i++) {
-        sum += contestant->put_packet(&world->device, world->geometry, world->area, length, world->page, PAGE, packet_slot,
-                                      events, 8 * packet_events);
+        sum += put(contestant, world, length);
         struct thayarqo_told told;
         do {
             told = contestant->step(&world->driver, world->geometry, world->area, length, world->packet, PACKET);
@@ -64,8 +68,7 @@ uint64_t revision1_packet_and_steps(const struct contestant *contestant, struct 
     uint64_t sum = 0;
     size_t length = area_length(world);
     for (uint32_t i = 0; i < times; i++) {
-        sum += contestant->put_packet(&world->device, world->geometry, world->area, length, world->page, PAGE, packet_slot,
-                                      events, 8 * packet_events);
+        sum += put(contestant, world, length);
         struct thayarqo_taken taken;
         do {
             taken = contestant->revision1_step(world->geometry, world->area, length);
