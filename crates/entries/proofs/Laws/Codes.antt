@@ -17,7 +17,8 @@ passed true code first rest apart = rw (ne-eqb code first apart)
 passed false code first rest apart = refl
 
 -- the code itself, which isn't behind it
-found : (given : Bool) (code : ℕ) (rest : List ℕ) → isAmong code rest ≡ false → isAmong code (cond given (code ∷ rest) rest) ≡ given
+found : (given : Bool) (code : ℕ) (rest : List ℕ) → isAmong code rest ≡ false
+    → isAmong code (cond given (code ∷ rest) rest) ≡ given
 unfolding isAmong
 found true code rest none = rw (eq-eqb code code refl)
 found false code rest none = none
