@@ -1,4 +1,6 @@
 // What stands at each offset of the BAR, and which accesses are refused.
+#![tactic(auto)]
+
 ghost use Rattle.std.specs.Prelude.{◌≡◌};
 ghost use Rattle.answers.specs.Refusals.{first_refusal};
 ghost use Rattle.access.specs.Place.{registers, place_in, place_of, is_read_only, is_nothing};
@@ -8,7 +10,7 @@ use answers::{BAD_ACCESS, DONE, INVALID, NO_REGISTER, READ_ONLY};
 use geometry::Geometry;
 
 // What stands at an offset of the BAR.
-#[derive(Drop)]
+#[derive(Clone, Copy)]
 pub enum Place {
     Magic,
     Rev,

@@ -1,4 +1,6 @@
 // The numbers that calls answer.
+#![tactic(auto)]
+
 pub const DONE: u8 = 0;
 // A geometry that is not allowed, a lent buffer of another length, or a state that breaks a rule.
 pub const INVALID: u8 = 1;

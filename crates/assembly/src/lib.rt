@@ -1,4 +1,6 @@
 // What each record does to a driver: events are collected into packets, and each packet is told whole.
+#![tactic(auto)]
+
 mod classify;
 mod packet;
 mod transition;
@@ -13,7 +15,7 @@ pub use transition::receive;
 // The driver's state but for the events of the packet that it collects. These stand in a buffer of their own that the caller
 // lends, so that a step copies one event at most.
 #[repr(C)]
-#[derive(Drop)]
+#[derive(Clone, Copy)]
 pub struct Driver {
     pub slot: u32,
     // How many events of the packet are collected.
@@ -27,7 +29,7 @@ pub struct Driver {
 }
 
 // What a record is, by its type, code and value.
-#[derive(Drop)]
+#[derive(Clone, Copy)]
 pub enum Kind {
     SynReport,
     SynDropped,
@@ -41,7 +43,7 @@ pub enum Kind {
 }
 
 // What a step tells. A packet's events are the first `count` of the lent buffer.
-#[derive(Drop)]
+#[derive(Clone, Copy)]
 pub enum Told {
     Refused(u8),
     Nothing,
@@ -54,7 +56,7 @@ pub enum Told {
     ResetAll,
 }
 
-#[derive(Drop)]
+#[derive(Clone, Copy)]
 pub struct Stepped {
     pub told: Told,
     pub driver: Driver,

@@ -7,7 +7,7 @@ use native.Mathlib.Nat.{add_comm, add_assoc, add-mul, add-mul-div_right, mul_ass
 use lib.Pow.{pow_pos, pow-add, shr-shr, high}
 use Rattle.bits.specs.Bits.{bit, with_bit, without_bit, assign_bit}
 use Rattle.bits.proofs.Laws.{clear_fits}
-use Rattle.bits.proofs.Assign.{assign_set, assign_cleared, assign_added, assign_clear}
+use Rattle.bits.proofs.Assigned.{assign_set, assign_cleared, assign_added, assign_clear}
 
 module _ (upper width lower : ℕ) where
   abbrev joined : ℕ

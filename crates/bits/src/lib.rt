@@ -1,4 +1,6 @@
 // Masks of bits.
+#![tactic(auto)]
+
 ghost use Rattle.std.specs.Prelude.{◌≡◌, true, false, ◌^◌, ◌<◌, ◌≤◌};
 ghost use Rattle.bits.specs.Bits.{bit, bit_of, with_bit, without_bit, assign_bit, IsLength};
 

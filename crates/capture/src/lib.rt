@@ -1,4 +1,6 @@
 // A captured event page as text.
+#![tactic(auto)]
+
 ghost use Rattle.std.specs.Prelude.{◌≡◌, ◌++◌, ◌+◌, ◌*◌, ◌≤◌, ◌<◌, length};
 ghost use Rattle.records.specs.Ring.{Holds};
 ghost use Rattle.records.specs.Unread.{records_from};

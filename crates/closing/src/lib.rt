@@ -1,4 +1,6 @@
 // Closing kbdif's node settings: which modes are on, and whether each has what it needs.
+#![tactic(auto)]
+
 ghost use Rattle.std.specs.Prelude.{◌≡◌, ◌&&◌};
 ghost use Rattle.closing.specs.Closing.{is_absolute, is_multi_touch, is_raw, is_scaled, has_contacts, lacks};
 ghost use Rattle.closing.specs.Closing.{lack_tests, first_lack, number_of, not_closed, close_settings};
@@ -8,7 +10,7 @@ use node_names::NumberName;
 use nodes::{Parameter, Settings};
 
 // The first number that is needed and wasn't given as it has to be.
-#[derive(Drop)]
+#[derive(Clone, Copy)]
 enum Lack {
     Nothing,
     Of(NumberName),
@@ -18,7 +20,7 @@ enum Lack {
 const MOST_CONTACTS: u32 = 32;
 
 #[repr(C)]
-#[derive(Drop)]
+#[derive(Clone, Copy)]
 pub struct Closed {
     pub answer: u8,
     pub absolute: bool,

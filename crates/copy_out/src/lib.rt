@@ -1,4 +1,6 @@
 // Copy-out: the oldest records, several at a time.
+#![tactic(auto)]
+
 ghost use Rattle.std.specs.Prelude.{◌≡◌, ◌+◌, ◌*◌, ◌%◌, ◌≤◌, ◌<◌, min, length};
 ghost use Rattle.copying.specs.Copying.{overwrite};
 ghost use Rattle.geometry.specs.Geometry.{ring_of};
@@ -11,7 +13,7 @@ use reading::{is_valid_area, reading_refusal};
 
 // What a copy-out answers, and how many records it copied.
 #[repr(C)]
-#[derive(Drop)]
+#[derive(Clone, Copy)]
 pub struct Copied {
     pub answer: u8,
     pub count: u32,

@@ -1,4 +1,6 @@
 // Bytes copied and zeroed.
+#![tactic(auto)]
+
 ghost use Rattle.std.specs.Prelude.{◌≡◌, ◌+◌, ◌≤◌, length, take, drop, replicate};
 ghost use Rattle.copying.specs.Copying.{overwrite, four_bytes};
 
@@ -15,7 +17,7 @@ pub fn copy(bytes: &mut [u8], at: usize, source: &[u8])
 }
 
 // Four bytes on their way.
-#[derive(Drop)]
+#[derive(Clone, Copy)]
 struct Four {
     first: u8,
     second: u8,

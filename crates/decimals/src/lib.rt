@@ -1,10 +1,12 @@
 // Unsigned decimals of 32 bits, read from text.
+#![tactic(auto)]
+
 ghost use Rattle.std.specs.Prelude.{◌≡◌};
 ghost use Rattle.answers.specs.Refusals.{first_refusal};
 ghost use Rattle.decimals.specs.Numbers.{follows_zero, next_number, read_number, answer_of, text_refusals};
 
 // What a text says.
-#[derive(Drop)]
+#[derive(Clone, Copy)]
 pub enum Number {
     Value(u32),
     // The place of the first byte that spoils the text.

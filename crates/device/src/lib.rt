@@ -1,4 +1,6 @@
 // The device's state, and the rules that every state passed in must keep.
+#![tactic(auto)]
+
 mod client_rev;
 mod state;
 
@@ -16,7 +18,7 @@ pub use state::{fresh, fresh_producer, is_acceleration, is_taken, keeps_rules};
 
 // What the registers remember.
 #[repr(C)]
-#[derive(Drop)]
+#[derive(Clone, Copy)]
 pub struct Registers {
     // CONTROL, bit 0.
     pub on: bool,
@@ -31,7 +33,7 @@ pub struct Registers {
 }
 
 // The revision that a device serves while it is on.
-#[derive(Drop)]
+#[derive(Clone, Copy)]
 pub enum Revision {
     One,
     Two,
@@ -39,7 +41,7 @@ pub enum Revision {
 
 // The device's end of the ring. A switch-on starts it anew.
 #[repr(C)]
-#[derive(Drop)]
+#[derive(Clone, Copy)]
 pub struct Producer {
     // The private write index. WRITE_PTR in the area is a copy for the guest.
     pub write_index: u32,
@@ -52,7 +54,7 @@ pub struct Producer {
 }
 
 #[repr(C)]
-#[derive(Drop)]
+#[derive(Clone, Copy)]
 pub struct Device {
     pub registers: Registers,
     pub producer: Producer,
@@ -62,7 +64,7 @@ pub struct Device {
 
 // What a rule answers, and the state after it.
 #[repr(C)]
-#[derive(Drop)]
+#[derive(Clone, Copy)]
 pub struct Outcome {
     pub answer: u8,
     pub device: Device,

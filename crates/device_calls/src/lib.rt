@@ -1,5 +1,7 @@
 // The calls of a host. The device's state stands in one place and is changed there: each call lends it to a rule by value and stores
 // what comes back.
+#![tactic(auto)]
+
 ghost use Rattle.std.specs.Prelude.{◌≡◌};
 ghost use Rattle.device.specs.State.{fresh_device};
 ghost use Rattle.packets.specs.Rule.{packet_of};

@@ -1,4 +1,6 @@
 // The guest's reader of the event area: one record a step.
+#![tactic(auto)]
+
 ghost use Rattle.std.specs.Prelude.{◌≡◌, true, length};
 ghost use Rattle.geometry.specs.Geometry.{allowed};
 ghost use Rattle.assembly.specs.Transition.{answer_of};

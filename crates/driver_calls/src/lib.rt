@@ -1,4 +1,6 @@
 // The calls of a guest's driver, and of a revision 1 guest's reader.
+#![tactic(auto)]
+
 ghost use Rattle.std.specs.Prelude.{◌≡◌};
 ghost use Rattle.assembly.specs.Transition.{fresh_driver};
 ghost use Rattle.driver.specs.Step.{step_of};
@@ -15,7 +17,7 @@ use revision1_reader::Taken;
 
 // What a step tells, as numbers.
 #[repr(C)]
-#[derive(Drop)]
+#[derive(Clone, Copy)]
 pub struct StepAnswer {
     pub answer: u8,
     pub what: u8,
@@ -25,7 +27,7 @@ pub struct StepAnswer {
 
 // With the driver's state after it.
 #[repr(C)]
-#[derive(Drop)]
+#[derive(Clone, Copy)]
 pub struct StepOutcome {
     pub answer: StepAnswer,
     pub driver: Driver,

@@ -1,4 +1,6 @@
 // Device entries in the entry page: written, zeroed, looked up, and what events they offer.
+#![tactic(auto)]
+
 mod offer;
 
 ghost use Rattle.std.specs.Prelude.{◌≡◌, true, ◌+◌, ◌≤◌, ◌<◌, length};

@@ -1,4 +1,6 @@
 // The sizes of a device, and what follows from them. What every call needs is found without a division.
+#![tactic(auto)]
+
 ghost use Rattle.std.specs.Prelude.{◌≡◌, true, ◌-◌, ◌*◌, ◌/◌, ◌≤◌, ◌<◌, leb, ltb};
 ghost use Rattle.geometry.specs.Geometry.{is_record_size, is_entry_size, allowed, area_length, bar_length};
 ghost use Rattle.geometry.specs.Geometry.{ring_of, record_place, slot_count, entry_place};
@@ -7,7 +9,7 @@ pub const PAGE_LENGTH: usize = 4096;
 
 // Event pages, bytes of a record, bytes of an entry.
 #[repr(C)]
-#[derive(Drop)]
+#[derive(Clone, Copy)]
 pub struct Geometry {
     pub pages: u32,
     pub record_size: u32,
@@ -16,7 +18,7 @@ pub struct Geometry {
 
 // The ring of event records in the event area: bytes of a record, and how many records.
 #[repr(C)]
-#[derive(Drop)]
+#[derive(Clone, Copy)]
 pub struct Ring {
     pub record_size: u32,
     pub length: u32,

@@ -1,4 +1,6 @@
 // A device added to a slot or removed from it. While the device is on in revision 2, one record tells the guest of the slot.
+#![tactic(auto)]
+
 mod add;
 mod remove;
 

@@ -1,4 +1,6 @@
 // The Xen keyboard ring: put for the back end, take for the front end.
+#![tactic(auto)]
+
 ghost use Rattle.std.specs.Prelude.{◌≡◌, length};
 ghost use Rattle.answers.specs.Refusals.{first_refusal};
 ghost use Rattle.kbdif_events.specs.Event.{event_length};
@@ -12,14 +14,14 @@ use kbdif_numbers::FoundNumbers;
 use kbdif_page::{IN_CONS, IN_PROD, PAGE_LENGTH, RING_LENGTH};
 
 // A put's answer, and the private in_prod after it.
-#[derive(Drop)]
+#[derive(Clone, Copy)]
 pub struct Stored {
     pub answer: u8,
     pub in_prod: u32,
 }
 
 // What a take found, and the private in_cons after it.
-#[derive(Drop)]
+#[derive(Clone, Copy)]
 pub struct Taken {
     pub found: FoundNumbers,
     pub in_cons: u32,

@@ -1,4 +1,6 @@
 // The keyboard ring. Each end keeps its own index, and lends it to its call.
+#![tactic(auto)]
+
 ghost use Rattle.std.specs.Prelude.{◌≡◌};
 ghost use Rattle.kbdif.specs.Put.{put_of};
 ghost use Rattle.kbdif.specs.Take.{take_of};

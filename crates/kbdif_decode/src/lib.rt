@@ -1,4 +1,6 @@
 // What the 40 bytes of an event of the Xen keyboard ring are, under a contact limit. A put, a take and a decode all go by it.
+#![tactic(auto)]
+
 ghost use Rattle.std.specs.Prelude.{◌≡◌, cond, ◌+◌, ◌≤◌, length, get_or};
 ghost use Rattle.kbdif_events.specs.Types.{xenkbd_type_mtouch};
 ghost use Rattle.kbdif_events.specs.Event.{event_length, between};
@@ -12,7 +14,7 @@ use kbdif_events::{
 };
 
 // Which fields an event has, and where. Two say that there is no event to read: it is malformed, or of another type or subtype.
-#[derive(Drop)]
+#[derive(Clone, Copy)]
 pub enum Form {
     Malformed,
     UnknownType,

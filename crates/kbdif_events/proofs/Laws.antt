@@ -13,9 +13,9 @@ use Rattle.kbdif_events.specs.Event.{event_length, zeros, padded, words_bytes}
 use Rattle.kbdif_events.specs.declared.EventWords.{EventWords}
 
 -- a bool as a byte
-pub bool_byte : (flag : Bool) → bool_byte flag ≡ cond flag 1 0
-bool_byte true = refl
-bool_byte false = refl
+pub bool_byte_lem : (flag : Bool) → bool_byte flag ≡ cond flag 1 0
+bool_byte_lem true = refl
+bool_byte_lem false = refl
 
 -- the upper half of a word that holds 16 bits
 pub upper_bytes : (v : ℕ) → v < 2 ^ 16 → (v / 65536 % 256 ≡ 0) × (v / 16777216 % 256 ≡ 0)

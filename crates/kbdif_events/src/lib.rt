@@ -1,4 +1,6 @@
 // The events of the Xen keyboard ring, and the 40 bytes that stand for them.
+#![tactic(auto)]
+
 ghost use Rattle.std.specs.Prelude.{◌≡◌, ◌+◌, ◌≤◌, ◌<◌, cond, [], ◌∷◌, ◌++◌, length};
 ghost use Rattle.copying.specs.Copying.{overwrite};
 ghost use Rattle.words.specs.Words.{u32_bytes};
@@ -31,7 +33,7 @@ pub const XENKBD_MT_EV_SHAPE: u8 = 4;
 
 pub const XENKBD_MT_EV_ORIENT: u8 = 5;
 
-#[derive(Drop)]
+#[derive(Clone, Copy)]
 pub enum RingEvent {
     Motion { x: i32, y: i32, z: i32 },
     Key { pressed: bool, keycode: u32 },
@@ -63,7 +65,7 @@ pub fn is_known(event: RingEvent) -> bool
 }
 
 // The words of an event's first sixteen bytes. The rest are zero.
-#[derive(Drop)]
+#[derive(Clone, Copy)]
 struct EventWords {
     head: u32,
     first: u32,

@@ -1,4 +1,6 @@
 // Events of the keyboard ring for callers whose language has no enum: a kind and numbers, read from an event's 40 bytes.
+#![tactic(auto)]
+
 pub mod convert;
 
 ghost use Rattle.std.specs.Prelude.{◌≡◌, ◌+◌, ◌≤◌, length};
@@ -14,7 +16,7 @@ use kbdif_events::{XENKBD_MT_EV_ORIENT, XENKBD_MT_EV_SHAPE, XENKBD_TYPE_KEY, XEN
 
 // An event. Numbers that its kind doesn't have are zero where a call gives it, and not looked at where a call gets it.
 #[repr(C)]
-#[derive(Drop)]
+#[derive(Clone, Copy)]
 pub struct RingNumbers {
     pub kind: u8,
     pub subtype: u8,
@@ -31,7 +33,7 @@ pub struct RingNumbers {
 
 // What a decode or a take answers. A refusal has an event of zeros.
 #[repr(C)]
-#[derive(Drop)]
+#[derive(Clone, Copy)]
 pub struct FoundNumbers {
     pub answer: u8,
     pub event: RingNumbers,

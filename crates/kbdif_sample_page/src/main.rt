@@ -1,5 +1,7 @@
 // Puts an event of each kind on a page of the keyboard ring and prints the page, for tests/kbdif.test to compare with
 // Xen's header.
+#![tactic(auto)]
+
 ghost use Rattle.std.specs.Prelude.{◌≡◌, length};
 ghost use Rattle.kbdif_page.specs.Page.{page_length};
 

@@ -1,4 +1,6 @@
 // Lists the unread records of a captured event page, which comes on standard input.
+#![tactic(auto)]
+
 ghost use Rattle.std.specs.Prelude.{◌≤◌};
 
 use libc::{STDIN_FILENO, STDOUT_FILENO};

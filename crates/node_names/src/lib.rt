@@ -1,9 +1,11 @@
 // The names of the nodes that are meant in kbdif's node settings.
+#![tactic(auto)]
+
 ghost use Rattle.std.specs.Prelude.{◌≡◌};
 ghost use Rattle.node_names.specs.Names.{same_bytes, number_node, node_of};
 
 // Nodes whose value is "0" or "1": the back end's features and the front end's requests.
-#[derive(Drop)]
+#[derive(Clone, Copy)]
 pub enum FlagName {
     FeatureDisableKeyboard,
     FeatureDisablePointer,
@@ -16,7 +18,7 @@ pub enum FlagName {
 }
 
 // Nodes whose value is a number.
-#[derive(Drop)]
+#[derive(Clone, Copy)]
 pub enum NumberName {
     Width,
     Height,
@@ -25,7 +27,7 @@ pub enum NumberName {
     TouchHeight,
 }
 
-#[derive(Drop)]
+#[derive(Clone, Copy)]
 pub enum Node {
     Flag(FlagName),
     Number(NumberName),

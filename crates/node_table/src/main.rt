@@ -1,5 +1,7 @@
 // Reads a table of nodes from standard input, one to a line, as name=value, and prints what each is answered. An empty
 // line closes the settings and begins new ones. A line with no equals sign is read as a number.
+#![tactic(auto)]
+
 ghost use Rattle.std.specs.Prelude.{◌≤◌, length};
 
 use decimals::Number;

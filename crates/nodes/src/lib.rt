@@ -1,4 +1,6 @@
 // kbdif's node settings: nodes are read one at a time, then the settings are closed.
+#![tactic(auto)]
+
 ghost use Rattle.std.specs.Prelude.{◌≡◌};
 ghost use Rattle.answers.specs.Refusals.{first_refusal};
 ghost use Rattle.decimals.specs.Numbers.{read_number};
@@ -10,7 +12,7 @@ use decimals::Number;
 use node_names::{FlagName, Node, NumberName};
 
 // What a flag's text says.
-#[derive(Drop)]
+#[derive(Clone, Copy)]
 enum Flag {
     Value(bool),
     // The place of the first byte that spoils the text.
@@ -18,7 +20,7 @@ enum Flag {
 }
 
 #[repr(C)]
-#[derive(Drop)]
+#[derive(Clone, Copy)]
 pub struct Parameter {
     pub given: bool,
     pub value: u32,
@@ -26,7 +28,7 @@ pub struct Parameter {
 
 // What the nodes have said so far.
 #[repr(C)]
-#[derive(Drop)]
+#[derive(Clone, Copy)]
 pub struct Settings {
     pub feature_disable_keyboard: bool,
     pub feature_disable_pointer: bool,
@@ -44,7 +46,7 @@ pub struct Settings {
 }
 
 #[repr(C)]
-#[derive(Drop)]
+#[derive(Clone, Copy)]
 pub struct NodeAnswer {
     pub answer: u8,
     pub settings: Settings,

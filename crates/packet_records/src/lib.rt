@@ -1,4 +1,6 @@
 // The records of a packet: how many there are, and put one after the other.
+#![tactic(auto)]
+
 ghost use Rattle.std.specs.Prelude.{◌≡◌, ◌≤◌, ◌<◌, length};
 ghost use Rattle.records.specs.Event.{most_events};
 ghost use Rattle.records.specs.Packet.{event_count, events_of};

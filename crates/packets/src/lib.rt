@@ -1,4 +1,6 @@
 // A packet of events for a slot: refused, or put whole.
+#![tactic(auto)]
+
 mod revision1;
 mod revision2;
 

@@ -1,4 +1,6 @@
 // What a call that reads records is lent, when it is refused, and the oldest record.
+#![tactic(auto)]
+
 ghost use Rattle.std.specs.Prelude.{◌≡◌, length};
 ghost use Rattle.records.specs.Ring.{Holds};
 ghost use Rattle.reading.specs.Oldest.{oldest_of, refusal_of};
@@ -9,7 +11,7 @@ use geometry::{Geometry, Ring};
 use records::Event;
 
 // The oldest unread record and its index, or why there is none.
-#[derive(Drop)]
+#[derive(Clone, Copy)]
 pub enum Oldest {
     Record { index: u32, event: Event },
     Refused(u8),

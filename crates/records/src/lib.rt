@@ -1,4 +1,6 @@
 // Event records in the event area: one put, one read, the two pointers, unread records and room.
+#![tactic(auto)]
+
 pub mod codes;
 mod packet;
 
@@ -21,7 +23,7 @@ const READ_PTR: usize = 0;
 const WRITE_PTR: usize = 4;
 
 #[repr(C)]
-#[derive(Drop)]
+#[derive(Clone, Copy)]
 pub struct Event {
     pub kind: u16,
     pub code: u16,

@@ -1,5 +1,7 @@
 // A guest's accesses to the registers and the pages, which a host catches and passes on. The device's state stands in one place and is
 // changed there: a write lends it to a rule by value and stores what comes back.
+#![tactic(auto)]
+
 ghost use Rattle.std.specs.Prelude.{◌≡◌, length};
 ghost use Rattle.registers.specs.Read.{read_of};
 ghost use Rattle.registers.specs.Write.{write_of};

@@ -1,10 +1,12 @@
 // What a packet has that revision 1 can tell, and whether it has a form.
+#![tactic(auto)]
+
 mod scan;
 
 pub use scan::{gesture_of, has_form, is_button};
 
 // An axis, or the wheel, of a packet.
-#[derive(Drop)]
+#[derive(Clone, Copy)]
 pub struct Axis {
     pub given: bool,
     // Given more than once.
@@ -14,7 +16,7 @@ pub struct Axis {
 }
 
 // What a packet has that revision 1 can tell.
-#[derive(Drop)]
+#[derive(Clone, Copy)]
 pub struct Gesture {
     // Every event has a form.
     pub known: bool,

@@ -1,4 +1,6 @@
 // Relative motion scaled by ACCELERATION, by its sign and its size.
+#![tactic(auto)]
+
 ghost use Rattle.std.specs.Prelude.{◌≡◌, ◌≤◌, ◌<◌, ◌^◌};
 ghost use Rattle.revision1_motion.specs.Scaling.{is_negative, size_of, scaled_size, is_in_range};
 ghost use Rattle.revision1_motion.specs.Scaling as spec;

@@ -1,4 +1,6 @@
 // The reader of a revision 1 guest: one record a step. It has no state of its own.
+#![tactic(auto)]
+
 ghost use Rattle.std.specs.Prelude.{◌≡◌};
 ghost use Rattle.revision1_reader.specs.Step.{taken_as, refused_with, take_answer, take_of};
 
@@ -9,7 +11,7 @@ use records::Event;
 
 // What a step hands back: its answer, and the 8 bytes of the record, zeros where none was taken.
 #[repr(C)]
-#[derive(Drop)]
+#[derive(Clone, Copy)]
 pub struct Taken {
     pub answer: u8,
     pub flags: u16,

@@ -1,4 +1,6 @@
 // Node settings, one node at a time.
+#![tactic(auto)]
+
 ghost use Rattle.std.specs.Prelude.{◌≡◌};
 ghost use Rattle.nodes.specs.Settings.{fresh_settings};
 ghost use Rattle.nodes.specs.Nodes.{read_node};

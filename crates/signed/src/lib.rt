@@ -1,5 +1,7 @@
 // Two's complement of 16 and 32 bits. A cast across the sign is only defined where it keeps the
 // number, so the negative half is counted down from -1.
+#![tactic(auto)]
+
 ghost use Rattle.std.specs.Prelude.{◌≡◌};
 ghost use Rattle.std.specs.Int.{w16, w32};
 ghost use Rattle.signed.specs.Signed.{from_bits, to_bits};

@@ -1,5 +1,7 @@
 // The example stream of the XENMOU2 page: a stylus in slot 4 and a touch panel in slot 7. Prints the records as they stand in the
 // ring, and then what the driver received.
+#![tactic(auto)]
+
 mod events;
 
 ghost use Rattle.std.specs.Prelude.{◌≡◌, ◌+◌, ◌*◌, ◌≤◌, ◌<◌, length};
@@ -110,7 +112,7 @@ fn hold(packet: &mut [u8], held: usize, event: Event) -> usize
 }
 
 // The device, and how many bytes of a packet are held.
-#[derive(Drop)]
+#[derive(Clone, Copy)]
 struct Sending {
     device: Device,
     held: usize,

@@ -1,4 +1,6 @@
 // The device switched on: the ring starts anew, in revision 2 with a record for each taken slot.
+#![tactic(auto)]
+
 ghost use Rattle.std.specs.Prelude.{◌≡◌, true, cond, [], ◌∷◌, map, ◌≤◌, ◌<◌, length};
 ghost use Rattle.bits.specs.Bits.{bit};
 ghost use Rattle.geometry.specs.Geometry.{allowed, ring_of};

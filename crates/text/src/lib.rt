@@ -1,4 +1,6 @@
 // Text put into a lent buffer: bytes, and numbers in decimal.
+#![tactic(auto)]
+
 ghost use Rattle.std.specs.Prelude.{◌≡◌, ◌+◌, ◌≤◌, ◌<◌, length};
 ghost use Rattle.copying.specs.Copying.{overwrite};
 ghost use Rattle.text.specs.Text.{digits, digit_count, decimal, Written};

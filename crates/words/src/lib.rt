@@ -1,4 +1,6 @@
 // Little-endian words of 16, 32 and 64 bits in a slice of bytes.
+#![tactic(auto)]
+
 ghost use Rattle.std.specs.Prelude.{◌≡◌, ◌+◌, ◌≤◌, ◌<◌, length};
 ghost use Rattle.words.specs.Words.{u16_at, u32_at, u16_bytes, u32_bytes, u64_bytes, set_u16, set_u32, set_u64};
 
