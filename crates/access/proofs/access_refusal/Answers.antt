@@ -25,12 +25,6 @@ inside c = rw (
       lt-leb _ _ c.if-offset-bar_length.false,
     )
 
--- where something stands
-placed : (c : Else-is_nothing) → Passed 5 (access_refusals c.args.valid c.args.geometry c.args.writes c.args.offset c.args.width)
-unfolding first_refusal
-placed c = inside_2 c
-    ∙ rw (← c.place_of-place.ensures, sym c.is_nothing.ensures ∙ c.if-is_nothing.false)
-
 -- a word within the BAR
 inside_2 : (c : Else-is_nothing) → Passed 4 (access_refusals c.args.valid c.args.geometry c.args.writes c.args.offset c.args.width)
 unfolding first_refusal
@@ -41,6 +35,12 @@ inside_2 c = rw (
       ← c.bar_length.ensures,
       lt-leb _ _ c.if-offset-bar_length.false,
     )
+
+-- where something stands
+placed : (c : Else-is_nothing) → Passed 5 (access_refusals c.args.valid c.args.geometry c.args.writes c.args.offset c.args.width)
+unfolding first_refusal
+placed c = inside_2 c
+    ∙ rw (← c.place_of-place.ensures, sym c.is_nothing.ensures ∙ c.if-is_nothing.false)
 
 pub returns-then-not-valid : goal.returns-then-not-valid
 unfolding first_refusal
