@@ -1,4 +1,5 @@
 -- The code asks whether the indices are equal before it tests the second: a write index equal to one in range is in range itself.
+use Prim.Native.Nat.{◌<◌}
 use native.Mathlib.Omega.{arith}
 use Rattle.answers.specs.Refusals.{first_refusal}
 use Rattle.reading.specs.Reading.{reading_refusal}
@@ -11,7 +12,9 @@ returns-then-read-ring c = rw (le-leb _ _ c.if-read-ring.true)
 
 pub returns-then-read-write : goal.returns-then-read-write
 unfolding reading_refusal first_refusal
-returns-then-read-write c = rw (lt-leb _ _ c.if-read-ring.false, lt-leb c.args.ring.length c.args.write (omega (arith, c.if-read-ring.false, c.if-read-write.true)), eq-eqb _ _ c.if-read-write.true)
+returns-then-read-write c =
+    let low : c.args.write < c.args.ring.length = omega arith in
+    rw (lt-leb _ _ c.if-read-ring.false, lt-leb _ _ low, eq-eqb _ _ c.if-read-write.true)
 
 pub returns-then-write-ring : goal.returns-then-write-ring
 unfolding reading_refusal first_refusal
