@@ -11,7 +11,8 @@ returns-then-not-is_valid_area c = rw (sym c.is_valid_area.ensures ∙ c.if-not-
 
 pub returns-then-packet_size-ne-PACKET_LENGTH : goal.returns-then-packet_size-ne-PACKET_LENGTH
 unfolding is_valid_step
-returns-then-packet_size-ne-PACKET_LENGTH c = rw (sym c.is_valid_area.ensures ∙ c.if-not-is_valid_area.false, ne_eqb _ _ c.if-packet_size-ne-PACKET_LENGTH.true)
+returns-then-packet_size-ne-PACKET_LENGTH c =
+    rw (sym c.is_valid_area.ensures ∙ c.if-not-is_valid_area.false, ne_eqb _ _ c.if-packet_size-ne-PACKET_LENGTH.true)
 
 pub is_driver-requires : goal.is_driver-requires
 is_driver-requires c = (sized _ _ (sym c.is_valid_area.ensures ∙ c.if-not-is_valid_area.false)).0

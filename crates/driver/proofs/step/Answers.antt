@@ -13,7 +13,9 @@ use Rattle.driver.proofs.step.Goals as goal
 use Rattle.driver.proofs.step.Goals.{After-read_oldest-oldest, Else-not-is_valid_step}
 
 holds : (c : Else-not-is_valid_step) → Holds (length c.args.area.now) (ring_of c.args.geometry)
-holds c = valid_holds c.args.geometry c.args.driver c.args.area.now c.args.packet.now (sym c.is_valid_step.ensures ∙ c.if-not-is_valid_step.false)
+holds c =
+    valid_holds c.args.geometry c.args.driver c.args.area.now c.args.packet.now
+    (sym c.is_valid_step.ensures ∙ c.if-not-is_valid_step.false)
 
 -- what was read, by the definition
 read : (c : After-read_oldest-oldest) → c.read_oldest-oldest.result ≡ oldest_of (ring_of c.args.geometry) c.args.area.now
@@ -33,11 +35,13 @@ read_oldest-oldest-requires c = rw c.ring_of-ring.ensures (holds (goal.at.read_o
 pub returns-in_default : goal.returns-in_default
 returns-in_default c = rw (c.refusal_of-refusal.ensures, c.in_default.is)
     (answered c.args.geometry c.args.driver c.args.area.now c.args.packet.now
-    (step_refused c.args.geometry c.args.driver c.args.area.now c.args.packet.now (sym c.is_valid_step.ensures ∙ c.if-not-is_valid_step.false)
+    (step_refused c.args.geometry c.args.driver c.args.area.now c.args.packet.now
+    (sym c.is_valid_step.ensures ∙ c.if-not-is_valid_step.false)
     (sym (read (goal.at.returns-in_default c).After-read_oldest-oldest) ∙ c.in_default.is)))
 
 pub next_index-next-requires : goal.next_index-next-requires
-next_index-next-requires c = let index = oldest_index _ _ (sym (read (goal.at.next_index-next-requires c).After-read_oldest-oldest) ∙ c.in-Record.is) in
+next_index-next-requires c =
+    let index = oldest_index _ _ (sym (read (goal.at.next_index-next-requires c).After-read_oldest-oldest) ∙ c.in-Record.is) in
     rw c.ring_of-ring.ensures index.1
 
 pub set_read_pointer-requires : goal.set_read_pointer-requires
@@ -49,7 +53,8 @@ receive-requires c = let v = valid _ _ _ _ (sym c.is_valid_step.ensures ∙ c.if
 
 pub returns : goal.returns
 returns c = answered c.args.geometry c.args.driver c.args.area.now c.args.packet.now
-    (step_received c.args.geometry c.args.driver c.args.area.now c.args.packet.now (sym c.is_valid_step.ensures ∙ c.if-not-is_valid_step.false)
+    (step_received c.args.geometry c.args.driver c.args.area.now c.args.packet.now
+    (sym c.is_valid_step.ensures ∙ c.if-not-is_valid_step.false)
     (sym (read (goal.at.returns c).After-read_oldest-oldest) ∙ c.in-Record.is) c.receive.ensures.0
     (c.set_read_pointer.ensures ∙ rw (c.next_index-next.ensures, c.ring_of-ring.ensures))
     c.receive.ensures.1)
