@@ -25,7 +25,8 @@ is_driver geometry driver =
 
 -- A step is refused with 1 for the geometry, a length that is lent or the driver's state.
 unfoldable pub is_valid_step : Geometry → Driver → ℕ → ℕ → Bool
-is_valid_step geometry driver area_size packet_size = is_valid_area geometry area_size && (eqb packet_size packet_length && is_driver geometry driver)
+is_valid_step geometry driver area_size packet_size =
+    is_valid_area geometry area_size && (eqb packet_size packet_length && is_driver geometry driver)
 
 -- What a step leaves: what it tells with the driver's state, the event area, and the events that the driver holds.
 pub record StepResult : Type 0 where

@@ -14,6 +14,7 @@ use reading::{Oldest, is_valid_area, read_oldest, refusal_of};
 use records::MOST_EVENTS;
 use records::codes::{NO_SLOT, UNKNOWN_SLOT};
 
+#[tactic(auto, unfolding(crate::specs::Step::is_driver))]
 fn is_driver(geometry: Geometry, driver: Driver) -> bool
     requires { allowed geometry ≡ true }
     ensures { result ≡ is_driver geometry driver }

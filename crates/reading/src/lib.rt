@@ -43,6 +43,7 @@ pub fn reading_refusal(ring: Ring, read: u32, write: u32) -> u8
 }
 
 // Each pointer is fetched once: what was tested is what is used.
+#[tactic(auto, unfolding(crate::specs::Oldest::oldest_of))]
 pub fn read_oldest(ring: Ring, area: &[u8]) -> Oldest
     requires { Holds (length area.now) ring }
     ensures { result ≡ oldest_of ring area.now }

@@ -28,7 +28,8 @@ pub record Valid (geometry : Geometry) (driver : Driver) (area_size packet_size 
   pub is_area_length : area_size ≡ area_length geometry
   pub holds_packet : packet_size ≡ packet_length
 
-pub valid : (geometry : Geometry) (driver : Driver) (area_size packet_size : ℕ) → is_valid_step geometry driver area_size packet_size ≡ true
+pub valid : (geometry : Geometry) (driver : Driver) (area_size packet_size : ℕ)
+    → is_valid_step geometry driver area_size packet_size ≡ true
     → Valid geometry driver area_size packet_size
 unfolding is_valid_step
 valid geometry driver area_size packet_size h =

@@ -27,7 +27,8 @@ module _ (geometry : Geometry) (driver : Driver) (packet left right : List ℕ) 
   same_on : (oldest : Oldest) → Holds (length left) (ring_of geometry)
       → Same (step_on geometry driver left packet oldest) (step_on geometry driver right packet oldest)
   unfolding Same
-  same_on (Record index event) holds = (refl, refl, same_moved (ring_of geometry) left right same holds (next_index (ring_of geometry) index))
+  same_on (Record index event) holds =
+      (refl, refl, same_moved (ring_of geometry) left right same holds (next_index (ring_of geometry) index))
   same_on (Refused number) holds = (refl, refl, same)
 
   pub same_step : ((step_of geometry driver left packet).stepped ≡ (step_of geometry driver right packet).stepped)

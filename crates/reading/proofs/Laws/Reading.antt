@@ -15,14 +15,16 @@ use Rattle.records.specs.Ring.{Holds}
 use Rattle.records.proofs.Laws.Place.{allowed-holds}
 use Rattle.reading.specs.Reading.{is_valid_area, reading_refusal}
 
-pub sized : (geometry : Geometry) (size : ℕ) → is_valid_area geometry size ≡ true → (allowed geometry ≡ true) × (size ≡ area_length geometry)
+pub sized : (geometry : Geometry) (size : ℕ) → is_valid_area geometry size ≡ true
+    → (allowed geometry ≡ true) × (size ≡ area_length geometry)
 unfolding is_valid_area
 sized geometry size h =
     let a = both (allowed geometry) _ h in
     (a.0, eqb-true size (area_length geometry) a.1)
 
 -- an area of the right length holds the ring
-pub sized_holds : (geometry : Geometry) (area : List ℕ) → is_valid_area geometry (length area) ≡ true → Holds (length area) (ring_of geometry)
+pub sized_holds : (geometry : Geometry) (area : List ℕ) → is_valid_area geometry (length area) ≡ true
+    → Holds (length area) (ring_of geometry)
 sized_holds geometry area h =
     let s = sized geometry (length area) h in
     rw s.1 (allowed-holds geometry s.0)

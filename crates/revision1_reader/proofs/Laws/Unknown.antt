@@ -24,7 +24,8 @@ module _ (geometry : Geometry) (left right : List ℕ) (same : SameToDriver (rin
   Same : TakeResult → TakeResult → Type 0
   Same one other = (one.taken ≡ other.taken) × SameToDriver (ring_of geometry) one.area other.area
 
-  same_on : (oldest : Oldest) → Holds (length left) (ring_of geometry) → Same (take_on geometry left oldest) (take_on geometry right oldest)
+  same_on : (oldest : Oldest) → Holds (length left) (ring_of geometry)
+      → Same (take_on geometry left oldest) (take_on geometry right oldest)
   unfolding Same
   same_on (Record index event) holds = (refl, same_moved (ring_of geometry) left right same holds (next_index (ring_of geometry) index))
   same_on (Refused number) holds = (refl, same)
