@@ -1,5 +1,4 @@
 -- The form of what 40 bytes hold: which fields there are to read, and where.
-use Rattle.std.specs.Prelude.{ℕ}
 use Rattle.kbdif_events.specs.declared.RingEvent.{RingEvent}
 use Rattle.kbdif_events.specs.declared.RingEvent.TheVariants.{Motion, Key, Pos, TouchDown, TouchUp, TouchMotion, TouchSyn, TouchShape}
 use Rattle.kbdif_events.specs.declared.RingEvent.TheVariants.{TouchOrient, Unknown}

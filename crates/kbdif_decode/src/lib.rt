@@ -86,6 +86,7 @@ fn touch_form(bytes: &[u8], contact_limit: u32) -> Form
     Form::Place
 }
 
+#[tactic(auto, using(crate::proofs::Laws::Form::two_untyped, crate::proofs::Laws::Form::key_spoiled))]
 pub fn form_of(bytes: &[u8], contact_limit: u32) -> Form
     requires { (length bytes.now ≡ event_length) × (1 ≤ contact_limit) × (contact_limit ≤ 256) }
     ensures { result ≡ form_of (decoded bytes.now contact_limit) }

@@ -9,6 +9,7 @@ use kbdif_events::{
     XENKBD_TYPE_POS,
 };
 
+#[tactic(auto, unfolding(crate::specs::Numbers::touch_of, kbdif_decode::specs::Decode::lookup))]
 fn touch_of(numbers: RingNumbers) -> RingEvent
     ensures { result ≡ touch_of numbers }
 {
@@ -40,6 +41,7 @@ fn touch_of(numbers: RingNumbers) -> RingEvent
     }
 }
 
+#[tactic(auto, unfolding(crate::specs::Numbers::event_of, kbdif_decode::specs::Decode::lookup))]
 pub fn event_of(numbers: RingNumbers) -> RingEvent
     ensures { result ≡ event_of numbers }
 {

@@ -189,6 +189,7 @@ fn orientation_at(bytes: &[u8]) -> RingNumbers
 }
 
 // What bytes tell that have been found to be of a form. An event of an unknown type is an event without numbers.
+#[tactic(auto, unfolding(crate::specs::Found::found_as))]
 pub fn found_as(form: Form, bytes: &[u8]) -> FoundNumbers
     requires { length bytes.now ≡ event_length }
     ensures { result ≡ found_as form bytes.now }

@@ -2,14 +2,12 @@
 use Prim.Native.Nat.{ℕ}
 use mathlib.Core.Path.{◌≡◌, sym, ap, ◌∙◌}
 use mathlib.Core.Bool.{Bool, cond}
-use mathlib.Core.List.{List}
 use native.Mathlib.Omega.{arith}
 use native.Mathlib.Decide.{ℕ_discrete}
 use borrow.Author.Tests.{eq-eqb, ne_eqb}
-use Rattle.answers.specs.Answers.{done, malformed}
-use Rattle.answers.specs.Refusals.{first_refusal}
+use Rattle.answers.specs.Answers.{done}
 use Rattle.kbdif_events.specs.declared.RingEvent.{RingEvent}
-use Rattle.kbdif_decode.specs.Decode.{Event, Refused, event_at, event_refusals, answered, number_of, decoded}
+use Rattle.kbdif_decode.specs.Decode.{Event, Refused, answered, number_of}
 
 pub answered-number : (number : ℕ) (event : RingEvent) → number_of (answered number event) ≡ number
 answered-number number event = elim (ℕ_discrete number done) [

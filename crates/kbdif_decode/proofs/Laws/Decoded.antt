@@ -1,12 +1,12 @@
 -- Encode after decode gives the bytes back.
 use Prim.Native.Nat.{ℕ, ◌+◌, ◌≤◌}
-use mathlib.Core.Path.{◌≡◌, refl, sym, ap, ◌∙◌, subst}
-use mathlib.Core.Bool.{Bool, true, false, cond, false≢true}
+use mathlib.Core.Path.{◌≡◌, refl, sym, ap, ◌∙◌}
+use mathlib.Core.Bool.{true, false, cond, false≢true}
 use mathlib.Core.List.{List, [], ◌∷◌, ◌++◌}
 use native.Mathlib.Omega.{arith}
 use native.Mathlib.Decide.{ℕ_discrete}
 use lib.Dec.{eqb}
-use lib.ListN.{length, get_or, drop}
+use lib.ListN.{length, get_or}
 use mir.Syntax.{w16, w32}
 use mir.Val.{Fits}
 use mir.Facts.{of_z-to_z}
@@ -19,7 +19,7 @@ use Rattle.kbdif_events.specs.declared.RingEvent.{RingEvent}
 use Rattle.kbdif_events.specs.declared.RingEvent.TheVariants.{Unknown}
 use Rattle.kbdif_events.specs.Types.{xenkbd_type_key, xenkbd_type_mtouch}
 use Rattle.kbdif_events.specs.Event.{event_length, between, layout_of, event_bytes, i32_bytes, i16_bytes, known}
-use Rattle.kbdif_decode.specs.Decode.{Event, i32_at, i16_at, lookup, touch_at, event_at, extent_of, reserved_is_zero, pressed_above_one}
+use Rattle.kbdif_decode.specs.Decode.{Event, i32_at, i16_at, touch_at, event_at, extent_of, reserved_is_zero, pressed_above_one}
 use Rattle.kbdif_decode.specs.Decode.{event_refusals, decoded}
 use Rattle.kbdif_decode.proofs.Laws.Answer.{answered-event}
 use Rattle.kbdif_decode.proofs.Laws.Layout.{ordered}
@@ -51,7 +51,8 @@ module _ (bytes : List ℕ) (size : length bytes ≡ event_length) (ok : IsBytes
   plain_head : {kind : ℕ} → get_or bytes 0 0 ≡ kind → kind ∷ [] ≡ between bytes 0 1
   plain_head kind = sym (one_byte bytes 0 (omega arith) ∙ rw kind)
 
-  key_head : {kind : ℕ} → get_or bytes 0 0 ≡ kind → get_or bytes 1 0 ≤ 1 → kind ∷ cond (eqb (get_or bytes 1 0) 1) 1 0 ∷ [] ≡ between bytes 0 2
+  key_head : {kind : ℕ} → get_or bytes 0 0 ≡ kind → get_or bytes 1 0 ≤ 1
+      → kind ∷ cond (eqb (get_or bytes 1 0) 1) 1 0 ∷ [] ≡ between bytes 0 2
   key_head {kind} e low = sym (two_bytes bytes 0 (omega arith) ∙ rw e (ap (λ (n : ℕ). kind ∷ n ∷ []) (bit (get_or bytes 1 0) low)))
     where
       bit : (n : ℕ) → n ≤ 1 → n ≡ cond (eqb n 1) 1 0

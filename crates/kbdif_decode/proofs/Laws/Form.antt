@@ -5,8 +5,11 @@ use mathlib.Core.Logic.{◌≢◌, ◌⊎◌, inl, inr}
 use mathlib.Core.Bool.{Bool, true, false, ◌&&◌, cond, and-true, and-false}
 use mathlib.Core.List.{List}
 use native.Mathlib.Omega.{arith}
-use lib.Dec.{leb, ltb, eqb}
+use lib.Dec.{ltb, eqb}
 use lib.ListN.{length, get_or}
+use borrow.Author.Tests.{le-ltb}
+use mir.Syntax.{w8}
+use mir.Val.{Fits}
 use Rattle.words.specs.Words.{u32_at, IsBytes}
 use Rattle.kbdif_events.specs.declared.RingEvent.{RingEvent}
 use Rattle.kbdif_events.specs.declared.RingEvent.TheVariants.{Motion, Key, Pos, TouchDown, TouchUp, TouchMotion}
@@ -202,3 +205,18 @@ module _ {bytes : List ℕ} {contact_limit : ℕ} (lent : Lent bytes contact_lim
           → form_of (decoded bytes contact_limit) ≡ cond (ltb (u64_at bytes 8) 65536) Orientation Malformed
       unfolding told
       orientation_form is = orientation_told is ∙ rw (head, rest, and-true (ltb (u64_at bytes 8) 65536))
+
+-- ---- two ways out of form_of, by what is compared there
+
+pub two_untyped : (bytes : List ℕ) (contact_limit : ℕ) → 1 ≤ contact_limit → get_or bytes 0 0 ≡ 2
+    → UnknownType ≡ form_of (decoded bytes contact_limit)
+unfolding event_at lookup
+two_untyped bytes contact_limit some two = sym (ap form_of (unknown_found bytes contact_limit some (λ three. omega arith) (rw two)))
+
+pub key_spoiled : (bytes : List ℕ) (contact_limit : ℕ) → length bytes ≡ event_length → ((i : ℕ) → Fits w8 (get_or bytes i 0))
+    → 1 ≤ contact_limit → contact_limit ≤ 256 → get_or bytes 0 0 ≡ xenkbd_type_key → 512 ≤ u32_at bytes 0
+    → Malformed ≡ form_of (decoded bytes contact_limit)
+unfolding told
+key_spoiled bytes contact_limit size fit some small kind high =
+    let lent : Lent bytes contact_limit = record { size = size; are_bytes = λ i. (fit i).fits; some = some; small = small } in
+    sym (key_form lent kind ∙ rw (le-ltb _ _ high))

@@ -1,6 +1,6 @@
 -- What is decoded of an event, by the tests of its form.
 use Prim.Native.Nat.{ℕ, ◌≤◌, ◌<◌}
-use mathlib.Core.Path.{◌≡◌, refl, sym, ap, ◌∙◌}
+use mathlib.Core.Path.{◌≡◌, refl, ap, ◌∙◌}
 use mathlib.Core.Logic.{◌≢◌}
 use mathlib.Core.Bool.{Bool, true, false, not, ◌&&◌, cond, and-true}
 use mathlib.Core.List.{List, [], ◌∷◌}
@@ -104,7 +104,8 @@ module _ (bytes : List ℕ) (contact_limit : ℕ) where
     unknown_found other same = other_formed {clear = true} other refl same refl
 
     -- past the types below that of a touch
-    pub other_found : xenkbd_type_pos < get_or bytes 0 0 → get_or bytes 0 0 ≢ xenkbd_type_mtouch → decoded bytes contact_limit ≡ Event Unknown
+    pub other_found : xenkbd_type_pos < get_or bytes 0 0 → get_or bytes 0 0 ≢ xenkbd_type_mtouch
+        → decoded bytes contact_limit ≡ Event Unknown
     unfolding event_at lookup
     other_found high other =
         unknown_found (λ three. omega arith) (rw (
@@ -155,7 +156,8 @@ module _ (bytes : List ℕ) (contact_limit : ℕ) where
     shape_judged subtype e = touch_formed refl (rw subtype) e
 
     pub orientation_judged : {clear : Bool} → get_or bytes 1 0 ≡ xenkbd_mt_ev_orient → clear ≡ zero_outside bytes 3 8 10
-        → decoded bytes contact_limit ≡ judged (clear && ltb (get_or bytes 2 0) contact_limit) (TouchOrient (get_or bytes 2 0) (i16_at bytes 8))
+        → decoded bytes contact_limit
+        ≡ judged (clear && ltb (get_or bytes 2 0) contact_limit) (TouchOrient (get_or bytes 2 0) (i16_at bytes 8))
     unfolding touch_at lookup reserved_is_zero extent_of layout_of
     orientation_judged subtype e = touch_formed refl (rw subtype) e
 

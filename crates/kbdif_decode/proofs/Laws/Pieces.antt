@@ -16,7 +16,8 @@ same e es i = e i ∷ es i
 two_digits : (a b : ℕ) → a < 256 → b < 256 → u16_bytes (a + b * 256) ≡ a ∷ b ∷ []
 two_digits a b ha hb = same (omega arith) (same (omega arith) refl)
 
-four_digits : (a b c d : ℕ) → a < 256 → b < 256 → c < 256 → d < 256 → u32_bytes (a + b * 256 + c * 65536 + d * 16777216) ≡ a ∷ b ∷ c ∷ d ∷ []
+four_digits : (a b c d : ℕ) → a < 256 → b < 256 → c < 256 → d < 256
+    → u32_bytes (a + b * 256 + c * 65536 + d * 16777216) ≡ a ∷ b ∷ c ∷ d ∷ []
 four_digits a b c d ha hb hc hd = same (omega arith) (same (omega arith) (same (omega arith) (same (omega arith) refl)))
 
 module _ (bytes : List ℕ) where
@@ -84,6 +85,7 @@ module _ (bytes : List ℕ) where
 
       pub u32_bytes_lem : at + 4 ≤ length bytes → u32_bytes (u32_at bytes at) ≡ between bytes at (at + 4)
       u32_bytes_lem h =
-          four_digits (get_or bytes at 0) (get_or bytes (at + 1) 0) (get_or bytes (at + 2) 0) (get_or bytes (at + 3) 0) (ok at) (ok (at + 1))
+          four_digits (get_or bytes at 0) (get_or bytes (at + 1) 0) (get_or bytes (at + 2) 0) (get_or bytes (at + 3) 0)
+          (ok at) (ok (at + 1))
           (ok (at + 2)) (ok (at + 3))
           ∙ sym (four_bytes_lem h)

@@ -157,7 +157,8 @@ module _ (bytes : List ℕ) (size : length bytes ≡ event_length) where
         stretch_number bytes 1 3 (omega arith) ∙ low_test (number_from bytes 1 3) (u32_at bytes 0) 256 (λ e. omega arith) (λ e. omega arith)
         )
 
-    pub key_clear : (zero_outside bytes 2 4 8 && leb (get_or bytes 1 0) 1) ≡ (ltb (u32_at bytes 0) 512 && (eqb (u64_at bytes 8) 0 && tail_clear))
+    pub key_clear : (zero_outside bytes 2 4 8 && leb (get_or bytes 1 0) 1)
+        ≡ (ltb (u32_at bytes 0) 512 && (eqb (u64_at bytes 8) 0 && tail_clear))
     unfolding number_from
     key_clear =
         let low = ok 0 in

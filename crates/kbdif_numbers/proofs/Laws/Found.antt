@@ -6,7 +6,6 @@ use mathlib.Core.List.{List}
 use lib.ListN.{get_or}
 use Rattle.kbdif_events.specs.declared.RingEvent.{RingEvent}
 use Rattle.kbdif_events.specs.declared.RingEvent.TheVariants.{Unknown}
-use Rattle.kbdif_events.specs.Types.{xenkbd_type_mtouch}
 use Rattle.kbdif_decode.specs.Decode.{Decoded, Event, touch_at, event_at, decoded}
 use Rattle.kbdif_decode.specs.Form.{event_form, form_of}
 use Rattle.kbdif_decode.specs.declared.Form.{Form}

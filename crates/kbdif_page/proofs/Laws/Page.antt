@@ -126,6 +126,7 @@ module _ (page : List ℕ) (size : length page ≡ page_length) where
         (apart (dec_lt (event_place in_prod) (event_place index + event_length)))
       where
         apart : Dec (event_place in_prod < event_place index + event_length) → Agree written page (event_place index) event_length
-        apart (no n) = overwrite-before page (event_place in_prod) event (event_place index) event_length (omega (arith, fits)) (omega arith)
+        apart (no n) =
+            overwrite-before page (event_place in_prod) event (event_place index) event_length (omega (arith, fits)) (omega arith)
         apart (yes n) = overwrite-after page (event_place in_prod) event (event_place index) event_length (omega (arith, fits))
             (rw long (places_apart index in_prod h k n))
