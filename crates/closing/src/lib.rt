@@ -61,7 +61,9 @@ fn is_raw(settings: Settings) -> bool
     both(wanted, absolute)
 }
 
-// Absolute coordinates without raw ones are scaled to an area.
+// Absolute coordinates without raw ones are scaled to an area. What absolute and raw are is known by their contracts, and one of them
+// negated is all that the definition adds.
+#[tactic(auto, unfolding(crate::specs::Closing::is_scaled))]
 fn is_scaled(settings: Settings) -> bool
     ensures { result ≡ is_scaled settings }
 {
@@ -86,6 +88,8 @@ fn is_lacking(needed: bool, had: bool) -> bool
     needed && !had
 }
 
+// Each test passed rules out one more row of the table; a return adds the test that held.
+#[tactic(auto, unfolding(crate::specs::Closing::first_lack))]
 fn first_lack(settings: Settings) -> Lack
     ensures { result ≡ first_lack (lack_tests settings) }
 {
@@ -136,6 +140,8 @@ fn refused() -> Closed
     }
 }
 
+// The lack that was found, or none, decides the definition's one case; each field of the record is then some function's answer.
+#[tactic(auto, unfolding(crate::specs::Closing::unless_lacking))]
 pub fn close(settings: Settings) -> Closed
     ensures { result ≡ close_settings settings }
 {

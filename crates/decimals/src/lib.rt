@@ -13,6 +13,7 @@ pub enum Number {
     Bad(usize),
 }
 
+#[tactic(auto, unfolding(crate::specs::Numbers::follows_zero))]
 fn follows_zero(place: usize, value: u32) -> bool
     ensures { result ≡ follows_zero place value }
 {
@@ -22,7 +23,8 @@ fn follows_zero(place: usize, value: u32) -> bool
     value == 0
 }
 
-// One byte more, after bytes that say `value`.
+// One byte more, after bytes that say `value`. Each way out is the case of `spoils` that its tests pick.
+#[tactic(auto, unfolding(crate::specs::Numbers::spoils, crate::specs::Numbers::next_number))]
 fn next_number(place: usize, value: u32, byte: u8) -> Number
     ensures { result ≡ next_number place value byte }
 {

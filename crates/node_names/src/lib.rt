@@ -34,7 +34,7 @@ pub enum Node {
     Other,
 }
 
-fn same_bytes_lem(left: &[u8], right: &[u8]) -> bool
+fn same_bytes(left: &[u8], right: &[u8]) -> bool
     ensures { result ≡ same_bytes left.now right.now }
 {
     if left.len() != right.len() {
@@ -53,19 +53,19 @@ fn same_bytes_lem(left: &[u8], right: &[u8]) -> bool
 fn number_node(name: &[u8]) -> Node
     ensures { result ≡ number_node name.now }
 {
-    if same_bytes_lem(name, b"width") {
+    if same_bytes(name, b"width") {
         return Node::Number(NumberName::Width);
     }
-    if same_bytes_lem(name, b"height") {
+    if same_bytes(name, b"height") {
         return Node::Number(NumberName::Height);
     }
-    if same_bytes_lem(name, b"multi-touch-num-contacts") {
+    if same_bytes(name, b"multi-touch-num-contacts") {
         return Node::Number(NumberName::Contacts);
     }
-    if same_bytes_lem(name, b"multi-touch-width") {
+    if same_bytes(name, b"multi-touch-width") {
         return Node::Number(NumberName::TouchWidth);
     }
-    if same_bytes_lem(name, b"multi-touch-height") {
+    if same_bytes(name, b"multi-touch-height") {
         return Node::Number(NumberName::TouchHeight);
     }
     Node::Other
@@ -75,28 +75,28 @@ fn number_node(name: &[u8]) -> Node
 pub fn node_of(name: &[u8]) -> Node
     ensures { result ≡ node_of name.now }
 {
-    if same_bytes_lem(name, b"feature-disable-keyboard") {
+    if same_bytes(name, b"feature-disable-keyboard") {
         return Node::Flag(FlagName::FeatureDisableKeyboard);
     }
-    if same_bytes_lem(name, b"feature-disable-pointer") {
+    if same_bytes(name, b"feature-disable-pointer") {
         return Node::Flag(FlagName::FeatureDisablePointer);
     }
-    if same_bytes_lem(name, b"feature-abs-pointer") {
+    if same_bytes(name, b"feature-abs-pointer") {
         return Node::Flag(FlagName::FeatureAbsPointer);
     }
-    if same_bytes_lem(name, b"feature-multi-touch") {
+    if same_bytes(name, b"feature-multi-touch") {
         return Node::Flag(FlagName::FeatureMultiTouch);
     }
-    if same_bytes_lem(name, b"feature-raw-pointer") {
+    if same_bytes(name, b"feature-raw-pointer") {
         return Node::Flag(FlagName::FeatureRawPointer);
     }
-    if same_bytes_lem(name, b"request-abs-pointer") {
+    if same_bytes(name, b"request-abs-pointer") {
         return Node::Flag(FlagName::RequestAbsPointer);
     }
-    if same_bytes_lem(name, b"request-multi-touch") {
+    if same_bytes(name, b"request-multi-touch") {
         return Node::Flag(FlagName::RequestMultiTouch);
     }
-    if same_bytes_lem(name, b"request-raw-pointer") {
+    if same_bytes(name, b"request-raw-pointer") {
         return Node::Flag(FlagName::RequestRawPointer);
     }
     number_node(name)

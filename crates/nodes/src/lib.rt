@@ -95,6 +95,8 @@ fn read_flag(text: &[u8]) -> Flag
     Flag::Value(byte == 49)
 }
 
+// Each arm stores the field that the definition's line for this name sets.
+#[tactic(auto, unfolding(crate::specs::Settings::with_flag))]
 fn with_flag(mut settings: Settings, name: FlagName, value: bool) -> Settings
     ensures { result ≡ with_flag settings name value }
 {
@@ -111,6 +113,8 @@ fn with_flag(mut settings: Settings, name: FlagName, value: bool) -> Settings
     settings
 }
 
+// Each arm stores the parameter in the field that the definition's line for this name sets.
+#[tactic(auto, unfolding(crate::specs::Settings::with_number))]
 fn with_number(mut settings: Settings, name: NumberName, value: u32) -> Settings
     ensures { result ≡ with_number settings name value }
 {
@@ -128,6 +132,8 @@ fn with_number(mut settings: Settings, name: NumberName, value: u32) -> Settings
     settings
 }
 
+// Where the text says a flag it is stored; else the settings stay.
+#[tactic(auto, unfolding(crate::specs::Nodes::after_flag))]
 fn read_flag_node(settings: Settings, name: FlagName, value: &[u8]) -> NodeAnswer
     ensures { result ≡ after_flag settings name (read_flag value.now) }
 {
@@ -143,6 +149,8 @@ fn read_flag_node(settings: Settings, name: FlagName, value: &[u8]) -> NodeAnswe
     }
 }
 
+// Where the text says a number it is stored; else the settings stay.
+#[tactic(auto, unfolding(crate::specs::Nodes::after_number))]
 fn read_number_node(settings: Settings, name: NumberName, value: &[u8]) -> NodeAnswer
     ensures { result ≡ after_number settings name (read_number value.now) }
 {
@@ -158,7 +166,9 @@ fn read_number_node(settings: Settings, name: NumberName, value: &[u8]) -> NodeA
     }
 }
 
-// Reads one node. A refusal hands the settings back as they were.
+// Reads one node. A refusal hands the settings back as they were. What the name is decides: a flag and a number have a reader of
+// their own, and any other name leaves the settings.
+#[tactic(auto, unfolding(crate::specs::Nodes::after_node))]
 pub fn read_node(settings: Settings, name: &[u8], value: &[u8]) -> NodeAnswer
     ensures { result ≡ read_node settings name.now value.now }
 {

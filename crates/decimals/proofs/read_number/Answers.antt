@@ -2,8 +2,7 @@
 use Rattle.decimals.proofs.Laws.Reading.{empty_is_bad, reading_begins, reading_goes_on, reading_spoiled, reading_ends}
 use Rattle.decimals.proofs.Laws.Answer.{answered}
 use native.Mathlib.Omega.{arith}
-use mathlib.Core.Path.{◌≡◌, sym, ◌∙◌}
-use Prim.Native.Nat.{◌-◌, ◌≤◌}
+use mathlib.Core.Path.{sym, ◌∙◌}
 use Rattle.decimals.proofs.read_number.Goals as goal
 
 pub returns-then-text-eq0 : goal.returns-then-text-eq0
@@ -13,12 +12,19 @@ pub loop-place-init : goal.loop-place-init
 loop-place-init c = (omega arith, reading_begins c.args.text.now c.if-text-eq0.false)
 
 pub returns-in-Bad : goal.returns-in-Bad
-returns-in-Bad c = let said = sym c.next_number.ensures ∙ c.at-1.given.1 in
-    answered c.args.text.now (reading_spoiled c.args.text.now c.loop-place.place c.loop-place.value _ c.loop-place.invariant.1 (omega arith) said)
+returns-in-Bad c =
+    let said = sym c.next_number.ensures ∙ c.in-Bad.is in
+    answered c.args.text.now
+    (reading_spoiled c.args.text.now c.loop-place.place c.loop-place.value _ c.loop-place.invariant.1 (omega arith) said)
 
 pub loop-place-preserved : goal.loop-place-preserved
-loop-place-preserved c = let said = sym c.next_number.ensures ∙ c.next-1.given.1 in
-    (omega arith, reading_goes_on c.args.text.now c.loop-place.place c.loop-place.value _ c.loop-place.invariant.1 (omega arith) said)
+loop-place-preserved c =
+    let said = sym c.next_number.ensures ∙ c.in-Value.is in (
+      omega arith,
+      reading_goes_on c.args.text.now c.loop-place.place c.loop-place.value _ c.loop-place.invariant.1 (omega arith) said,
+    )
 
 pub returns : goal.returns
-returns c = answered c.args.text.now (reading_ends c.args.text.now c.loop-place.place c.loop-place.value _ c.loop-place.invariant.1 (omega arith))
+returns c =
+    answered c.args.text.now
+    (reading_ends c.args.text.now c.loop-place.place c.loop-place.value _ c.loop-place.invariant.1 (omega arith))

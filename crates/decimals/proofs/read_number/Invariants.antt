@@ -1,7 +1,7 @@
 -- The loop's invariant: the text still to be read, behind the number read so far, says what the whole text says.
 use Rattle.decimals.specs.Numbers.{read_rest, read_number}
 use lib.ListN.{length, drop}
-use mathlib.Core.Path.{◌≡◌, ◌∙◌}
+use mathlib.Core.Path.{◌≡◌}
 use Prim.Native.Nat.{◌-◌, ◌≤◌}
 use Rattle.decimals.proofs.read_number.Given as goal
 
