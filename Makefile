@@ -29,7 +29,7 @@ library:
 	@tools/library
 
 listing:
-	@if tools/stale $(LISTING); then rt check listing && touch $(LISTING); fi
+	@tools/program listing
 
 # Without cargo there is no replay, and all else is as it is.
 replay: library
@@ -56,7 +56,7 @@ uninstall:
 	rm -f $(ROOT)/lib/libthayarqo.a $(ROOT)/lib/pkgconfig/thayarqo.pc $(ROOT)/bin/thayarqo-listing $(ROOT)/bin/thayarqo-replay
 
 fmt:
-	rt fmt
+	for crate in crates/*/; do (cd $$crate && rt fmt) || exit; done
 
 clean:
-	rm -rf target rust/target
+	rm -rf target rust/target crates/*/out

@@ -106,23 +106,13 @@ pub fn nothing()
 END
 }
 
-sample_log() { # CRATE/LABEL
-    put "$top/target/must-fail/$1/.log"
-}
-
-# The first edit is refused by a false goal, and only then by what rests on it. The second has no line
-# with an error: its proof was made without a file.
+# What rt ci writes of the sample's edits. The first is refused by a false goal. The second has no error: its proof was made without a file.
 sample_logs() {
-    sample_log core/left_is_seven <<'END'
-proofs/left/Proof.antt:9:5: note: `rw` took the first instance; the module has no `Need-note`
-proofs/left/Proof.antt:23:13: error: `returns`: one has `left` (expected) and the other has `7`
-proofs/left/Proof.antt:34:5: error: `tie.Need-add`: module `Tie` has no `Need-add` that can be named
-logic=not-proved
-END
-    sample_log face/eight <<'END'
-note: src/lib.rt:10:1: it is not proved that what the function ensures holds (`returns`)
-    returns : tie.Need-returns
-logic=not-proved
+    put "$top/target/rt-ci.log" <<'END'
+rt: core proved
+rt: must-fail core/left_is_seven.edit: refused, as it must be: ./proofs/left/Answers.antt:23:13: error: `returns`: one has `left` (expected) and
+rt: must-fail face/eight.edit: refused, as it must be: note: src/lib.rt:10:1: it is not proved that what the function ensures holds (`returns`)
+5 passed, 0 failed
 END
 }
 

@@ -38,12 +38,12 @@ FNR == 1 && part != "" { close_function("?") }
 
 part == "" && line ~ head { open_function() }
 
-part == "signature" && line ~ /^ *(ghost|requires|ensures) [{]/ { part = "contract" }
+part == "signature" && line ~ /^ *(ghost|requires|ensures)[*]?( [A-Za-z0-9_]+)? [{]/ { part = "contract" }
 
 # A clause can hold braces, also at the end of a line.
 part == "contract" && line != margin "{" && line != margin "{}" {
-    if (line ~ /^ *requires [{]/) requires++
-    if (line ~ /^ *ensures [{]/) ensures++
+    if (line ~ /^ *requires[*]?( [A-Za-z0-9_]+)? [{]/) requires++
+    if (line ~ /^ *ensures[*]?( [A-Za-z0-9_]+)? [{]/) ensures++
     next
 }
 

@@ -1,9 +1,8 @@
 -- A bit that is assigned is as it was given, the others stay, and a mask stays below the power above its bits.
 use Prim.Native.Nat.{ℕ, ◌^◌, ◌<◌}
-use mathlib.Core.Path.{◌≡◌, refl, sym, ◌∙◌}
+use mathlib.Core.Path.{◌≡◌, refl}
 use mathlib.Core.Logic.{◌≢◌}
 use mathlib.Core.Bool.{Bool, true, false}
-use native.Mathlib.Omega.{arith}
 use Rattle.bits.specs.Bits.{bit, with_bit, without_bit, assign_bit}
 use Rattle.bits.proofs.Laws.{set_same, set_other, set_below, clear_same, clear_other, clear_below}
 

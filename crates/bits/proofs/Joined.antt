@@ -1,11 +1,11 @@
 -- Two masks as one, the lower of so many bits: each bit is one of either, and assigning it assigns that one.
-use Prim.Native.Nat.{ℕ, suc, ◌+◌, ◌-◌, ◌*◌, ◌/◌, ◌%◌, ◌^◌, ◌≤◌, ◌<◌}
+use Prim.Native.Nat.{ℕ, suc, ◌+◌, ◌-◌, ◌*◌, ◌/◌, ◌%◌, ◌^◌, ◌<◌}
 use mathlib.Core.Path.{◌≡◌, refl, sym, ap, ◌∙◌}
 use mathlib.Core.Bool.{Bool, true, false}
 use native.Mathlib.Omega.{arith}
 use native.Mathlib.Nat.{add_comm, add_assoc, add-mul, add-mul-div_right, mul_assoc, pow-suc}
 use lib.Pow.{pow_pos, pow-add, shr-shr, high}
-use Rattle.bits.specs.Bits.{bit, with_bit, without_bit, assign_bit}
+use Rattle.bits.specs.Bits.{bit, assign_bit}
 use Rattle.bits.proofs.Laws.{clear_fits}
 use Rattle.bits.proofs.Assigned.{assign_set, assign_cleared, assign_added, assign_clear}
 
@@ -20,7 +20,8 @@ module _ (upper width lower : ℕ) where
       let more : ℕ = width - suc index in
       let sum : width ≡ suc more + index = omega arith in
       let power : upper * 2 ^ width ≡ upper * 2 ^ more * 2 * 2 ^ index =
-      ap (λ (n : ℕ). upper * 2 ^ n) sum ∙ ap (λ (n : ℕ). upper * n) (pow-add 2 (suc more) index ∙ ap (λ (n : ℕ). n * 2 ^ index) (pow-suc 2 more))
+      ap (λ (n : ℕ). upper * 2 ^ n) sum
+      ∙ ap (λ (n : ℕ). upper * n) (pow-add 2 (suc more) index ∙ ap (λ (n : ℕ). n * 2 ^ index) (pow-suc 2 more))
       ∙ sym (mul_assoc upper (2 ^ more * 2) (2 ^ index)) ∙ ap (λ (n : ℕ). n * 2 ^ index) (sym (mul_assoc upper (2 ^ more) 2)) in
       let quotient : joined / 2 ^ index ≡ lower / 2 ^ index + upper * 2 ^ more * 2 =
       ap (λ (n : ℕ). (n + lower) / 2 ^ index) power ∙ ap (λ (n : ℕ). n / 2 ^ index) (add_comm (upper * 2 ^ more * 2 * 2 ^ index) lower)
@@ -37,7 +38,8 @@ module _ (upper width lower : ℕ) where
         sym (shr-shr joined width index) ∙ ap (λ (n : ℕ). n / 2 ^ index) (high upper width low) in
         rw quotient
 
-    pub assign_upper : (index : ℕ) (given : Bool) → assign_bit joined (width + index) given ≡ assign_bit upper index given * 2 ^ width + lower
+    pub assign_upper : (index : ℕ) (given : Bool)
+        → assign_bit joined (width + index) given ≡ assign_bit upper index given * 2 ^ width + lower
     assign_upper index given = go (bit upper index) refl given
       where
         power : 2 ^ (width + index) ≡ 2 ^ index * 2 ^ width
@@ -56,7 +58,8 @@ module _ (upper width lower : ℕ) where
             ∙ rw (assign_added upper index e, power) (omega (arith, add-mul upper (2 ^ index) (2 ^ width)))
         go false e false = assign_clear joined (width + index) (bit_upper index ∙ e) ∙ rw (assign_clear upper index e)
 
-  pub assign_lower : (index : ℕ) (given : Bool) → index < width → assign_bit joined index given ≡ upper * 2 ^ width + assign_bit lower index given
+  pub assign_lower : (index : ℕ) (given : Bool) → index < width
+      → assign_bit joined index given ≡ upper * 2 ^ width + assign_bit lower index given
   assign_lower index given inside = go (bit lower index) refl given
     where
       go : (was : Bool) → bit lower index ≡ was → (given : Bool)

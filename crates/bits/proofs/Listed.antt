@@ -2,13 +2,12 @@
 use Prim.Native.Nat.{ℕ, zero, suc, ◌+◌, ◌/◌, ◌%◌, ◌^◌, ◌≤◌, ◌<◌}
 use mathlib.Core.Path.{◌≡◌, refl, sym, ap, ◌∙◌}
 use mathlib.Core.Bool.{Bool, true, false, cond}
-use mathlib.Core.List.{List, [], ◌∷◌}
+use mathlib.Core.List.{List, ◌∷◌}
 use native.Mathlib.Omega.{arith}
-use native.Mathlib.Nat.{div-one, div-div-eq-div-mul, pow-suc, zero-div}
+use native.Mathlib.Nat.{div-one, div-div-eq-div-mul, pow-suc}
 use lib.Dec.{eqb}
 use lib.Count.{ones, ones_step}
 use lib.ListN.{length}
-use borrow.Author.Tests.{eq-eqb, ne_eqb}
 use Rattle.bits.specs.Bits.{bit, bit_of, bits_from}
 
 pub bit_at_most_one : (set : Bool) → bit_of set ≤ 1
@@ -20,7 +19,8 @@ module _ (mask : ℕ) where
   split_length true index rest = omega arith
   split_length false index rest = omega arith
 
-  pub bits_more : (index count : ℕ) → length (bits_from mask index (suc count)) ≡ bit_of (bit mask index) + length (bits_from mask (suc index) count)
+  pub bits_more : (index count : ℕ)
+      → length (bits_from mask index (suc count)) ≡ bit_of (bit mask index) + length (bits_from mask (suc index) count)
   unfolding bits_from
   bits_more index count = split_length (bit mask index) index (bits_from mask (suc index) count)
 

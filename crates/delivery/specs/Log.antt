@@ -46,7 +46,8 @@ is_nothing_to_read step n = eqb n nothing_to_read
 
 abbrev pub ends_with_nothing_to_read_from : Bool → List Entry → Bool
 ends_with_nothing_to_read_from dry [] = dry
-ends_with_nothing_to_read_from dry (entry ∷ rest) = ends_with_nothing_to_read_from (is_nothing_to_read entry.did (number_in entry.answered)) rest
+ends_with_nothing_to_read_from dry (entry ∷ rest) =
+    ends_with_nothing_to_read_from (is_nothing_to_read entry.did (number_in entry.answered)) rest
 
 abbrev pub ends_with_nothing_to_read : List Entry → Bool
 ends_with_nothing_to_read log = ends_with_nothing_to_read_from false log

@@ -21,7 +21,8 @@ use Rattle.packets.specs.Revision.{is_formed, records_in, lost_after, current_af
 
 -- What every packet call is told and lent: as any call of the device, and whole events.
 abbrev pub is_valid_packet_call : Geometry → Device → ℕ → ℕ → ℕ → Bool
-is_valid_packet_call geometry device area_size page_size packet_size = is_valid_call geometry device area_size page_size && is_whole packet_size
+is_valid_packet_call geometry device area_size page_size packet_size =
+    is_valid_call geometry device area_size page_size && is_whole packet_size
 
 abbrev pub packet_records : Device → ℕ → List ℕ → List Event
 packet_records device slot packet = records_in (revision_of device.registers) device slot (events_of packet)

@@ -75,7 +75,8 @@ returns-then-is_nothing c = sym (inside (goal.at.returns-then-is_nothing c).Else
 
 pub returns-then-not-writes : goal.returns-then-not-writes
 unfolding first_refusal
-returns-then-not-writes c = sym (placed (goal.at.returns-then-not-writes c).Else-is_nothing ∙ rw (not-true c.args.writes c.if-not-writes.true-raw))
+returns-then-not-writes c = sym
+    (placed (goal.at.returns-then-not-writes c).Else-is_nothing ∙ rw (not-true c.args.writes c.if-not-writes.true-raw))
 
 pub returns-then-is_read_only : goal.returns-then-is_read_only
 unfolding first_refusal

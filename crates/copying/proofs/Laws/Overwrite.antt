@@ -36,7 +36,8 @@ module _ (bytes : List ℕ) (at : ℕ) (stretch : List ℕ) where
   unfolding overwrite
   overwrite-length h = simp (length-append, length-take, length-drop) (omega arith)
 
-  pub overwrite_inside : (i : ℕ) → at ≤ length bytes → i < length stretch → get_or (overwrite bytes at stretch) (at + i) 0 ≡ get_or stretch i 0
+  pub overwrite_inside : (i : ℕ) → at ≤ length bytes → i < length stretch
+      → get_or (overwrite bytes at stretch) (at + i) 0 ≡ get_or stretch i 0
   unfolding overwrite
   overwrite_inside i h k =
       ap (λ (n : ℕ). get_or (overwrite bytes at stretch) (n + i) 0) (sym (length-take-le at bytes h))

@@ -11,7 +11,8 @@ use Rattle.copying.specs.Copying.{overwrite, four_bytes}
 use Rattle.copying.proofs.Laws.Overwrite.{overwrite_next}
 
 module _ (bytes : List ℕ) where
-  next : (place following : ℕ) → following ≡ place + 1 → place < length bytes → drop place bytes ≡ get_or bytes place 0 ∷ drop following bytes
+  next : (place following : ℕ) → following ≡ place + 1 → place < length bytes
+      → drop place bytes ≡ get_or bytes place 0 ∷ drop following bytes
   next place following e h = rw (e, add-one, drop-cons bytes place 0 h)
 
   pub four_bytes_lem : (at : ℕ) → at + 4 ≤ length bytes → get_or bytes at 0 ∷ get_or bytes (at + 1) 0 ∷ get_or bytes (at + 2) 0 ∷

@@ -53,7 +53,8 @@ record Along (geometry : Geometry) (world : World) (begun : List Event) (pending
   log : received_from begun (log_of geometry world calls) ++ still
       ≡ pending ++ sent_from (sender_of world.device) (log_of geometry world calls)
   same_revision : revision_in (after geometry world calls) ≡ revision_in world
-  dry : (before : Bool) → (before ≡ true → pending ≡ []) → ends_with_nothing_to_read_from before (log_of geometry world calls) ≡ true → still ≡ []
+  dry : (before : Bool) → (before ≡ true → pending ≡ []) → ends_with_nothing_to_read_from before (log_of geometry world calls) ≡ true
+      → still ≡ []
   no_bad_index : NoBadIndex (log_of geometry world calls)
 
 -- the log of a call, then that of the rest

@@ -58,7 +58,8 @@ dropping collector = with (ended true collector.driver) collector
 
 module _ (geometry : Geometry) where
   -- the kind of a record decides; this one doesn't join
-  lead : (event : Event) (collector : Collector) (k : Kind) {items : List Item} {slot : ℕ} {events : List Event} → kind_of geometry event ≡ k
+  lead : (event : Event) (collector : Collector) (k : Kind) {items : List Item} {slot : ℕ} {events : List Event}
+      → kind_of geometry event ≡ k
       → (received k event collector.driver).driver.held ≤ collector.driver.held
       → told_by (received k event collector.driver).told collector.packet ≡ items
       → Holding slot events (with (received k event collector.driver).driver collector)
@@ -161,7 +162,8 @@ module _ (geometry : Geometry) where
   unfolding kind_of dev_kind
   set_slot new {collector} low h =
       let same = moved_held new collector.driver in
-      lead (dev_record dev_set new) collector kind.DevSet (rw (lt-ltb new (slot_count geometry) low)) (omega (arith, same)) refl (move new h)
+      lead (dev_record dev_set new) collector kind.DevSet (rw (lt-ltb new (slot_count geometry) low)) (omega (arith, same)) refl
+          (move new h)
 
   pub conf : (new : ℕ) {collector : Collector} {slot : ℕ} → new < slot_count geometry → Holding slot [] collector
       → Leads geometry (dev_record dev_conf new) collector [] slot []

@@ -92,7 +92,8 @@ left_by world device area page = record { device = device; area = area; page = p
 
 -- What a put leaves of a world.
 abbrev pub put_in : Geometry → World → List Event → Device → List ℕ → World
-put_in geometry world records device page = left_by world device (put_records (ring_of geometry) (write_index world) records world.area) page
+put_in geometry world records device page =
+    left_by world device (put_records (ring_of geometry) (write_index world) records world.area) page
 
 module _ (geometry : Geometry) (world : World) (begun : List Event) (pending : List Item) where
   pub reads-put : (revision : Revision) → Reads revision geometry world begun pending → Holds (length world.area) (ring_of geometry)

@@ -53,7 +53,8 @@ module _ (area : List ℕ) (room : 8 ≤ length area) where
 -- A write after which a device that was off is on.
 pub record Switched (geometry : Geometry) (device : Device) (area : List ℕ) (result : Result) : Type 0 where
   pub interrupts : Bool
-  pub device_after : result.outcome.device ≡ switched_on interrupts (index_after (ring_of geometry) 0 (start_records geometry device)) device
+  pub device_after : result.outcome.device ≡ switched_on interrupts (index_after (ring_of geometry) 0 (start_records geometry device))
+      device
   pub area-after : result.area ≡ put_records (ring_of geometry) 0 (start_records geometry device) (cleared_pointers area)
 
 module _ (geometry : Geometry) (device : Device) (area : List ℕ) (ok : allowed geometry ≡ true) (off : device.registers.on ≡ false) where

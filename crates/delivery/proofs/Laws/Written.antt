@@ -144,7 +144,8 @@ module _ (geometry : Geometry) (device : Device) (area : List ℕ) (on : device.
     -- ---- every place
 
     module _ (holds : Holds (length area) (ring_of geometry)) where
-      effect_written : (at : Place) → Written geometry device area value (is_acceleration_place at) (effect_of geometry device area value at)
+      effect_written : (at : Place) → Written geometry device area value (is_acceleration_place at)
+          (effect_of geometry device area value at)
       effect_written place.Magic = unmoved
       effect_written place.Rev = unmoved
       effect_written place.Control = control_written

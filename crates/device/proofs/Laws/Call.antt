@@ -38,14 +38,16 @@ call geometry device area_size page_size h =
     }
 
 -- another state in the same place
-pub call_with : (geometry : Geometry) {device : Device} {area_size page_size : ℕ} (after : Device) → Call geometry device area_size page_size
+pub call_with : (geometry : Geometry) {device : Device} {area_size page_size : ℕ} (after : Device)
+    → Call geometry device area_size page_size
     → Rules geometry after → is_valid_call geometry after area_size page_size ≡ true
 unfolding is_valid_pages is_valid_call
 call_with geometry {area_size = area_size} {page_size} after c keeps =
     rw (c.is_allowed, eq-eqb area_size (area_length geometry) c.is_area_length, eq-eqb page_size 4096 c.is_page_length)
     (rules_hold geometry after keeps)
 
-pub pages_allowed : (geometry : Geometry) (area_size page_size : ℕ) → is_valid_pages geometry area_size page_size ≡ true → allowed geometry ≡ true
+pub pages_allowed : (geometry : Geometry) (area_size page_size : ℕ) → is_valid_pages geometry area_size page_size ≡ true
+    → allowed geometry ≡ true
 unfolding is_valid_pages
 pages_allowed geometry area_size page_size h = (both (allowed geometry) _ h).0
 

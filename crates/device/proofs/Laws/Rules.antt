@@ -19,7 +19,8 @@ use Rattle.device.specs.declared.Device.{Device}
 use Rattle.device.specs.Revision.{may_run}
 use Rattle.device.specs.Setters.{with_producer, with_taken, with_control, with_isr, with_client_rev, with_acceleration}
 use Rattle.device.specs.Setters.{with_lost, with_position, with_write_index, with_current_slot}
-use Rattle.device.specs.State.{is_taken, is_acceleration, is_client_rev, taken_rule, write_index_rule, client_rev_rule, current_rule, is_device}
+use Rattle.device.specs.State.{is_taken, is_acceleration, is_client_rev, taken_rule, write_index_rule, client_rev_rule, current_rule}
+use Rattle.device.specs.State.{is_device}
 
 pub record Rules (geometry : Geometry) (device : Device) : Type 0 where
   pub write_inside : device.producer.write_index < ring_length geometry

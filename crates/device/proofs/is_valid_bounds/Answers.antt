@@ -16,7 +16,9 @@ ring_of-ring-requires c = pages_allowed _ _ _ ((sym c.is_valid_pages.ensures ∙
 
 pub returns-then-write_index-ring : goal.returns-then-write_index-ring
 unfolding is_valid_bounds
-returns-then-write_index-ring c = rw ((sym c.is_valid_pages.ensures ∙ not-false _ c.if-not-is_valid_pages.false-raw), le-ltb _ _ (rw c.ring_of-ring.ensures at c.if-write_index-ring.true))
+returns-then-write_index-ring c =
+    rw ((sym c.is_valid_pages.ensures ∙ not-false _ c.if-not-is_valid_pages.false-raw), le-ltb _ _
+    (rw c.ring_of-ring.ensures at c.if-write_index-ring.true))
 
 pub has_slots-requires : goal.has_slots-requires
 has_slots-requires c = pages_allowed _ _ _ ((sym c.is_valid_pages.ensures ∙ not-false _ c.if-not-is_valid_pages.false-raw))

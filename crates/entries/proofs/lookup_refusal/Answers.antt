@@ -57,7 +57,8 @@ slice_bounds-is_present-end c = omega (arith, inside (goal.at.slice_bounds-is_pr
 pub returns-then-not-is_present : goal.returns-then-not-is_present
 unfolding first_refusal
 returns-then-not-is_present c = let part = known_part c.args.geometry c.args.page.now c.args.slot c.entry_place-start.ensures in
-    sym (in_range (goal.at.returns-then-not-is_present c).Else-not-is_slot ∙ rw (← part, ← c.is_present.ensures, c.if-not-is_present.true-raw))
+    sym (in_range (goal.at.returns-then-not-is_present c).Else-not-is_slot
+        ∙ rw (← part, ← c.is_present.ensures, c.if-not-is_present.true-raw))
 
 pub returns : goal.returns
 unfolding first_refusal

@@ -5,7 +5,8 @@ use Rattle.device.proofs.Laws.Call.{call_tests}
 use Rattle.packets.proofs.is_valid_packet_call.Goals as goal
 
 pub returns-then-not-is_valid_bounds : goal.returns-then-not-is_valid_bounds
-returns-then-not-is_valid_bounds c = rw (← call_tests _ c.args.device _ _, sym c.is_valid_bounds.ensures ∙ not-true _ c.if-not-is_valid_bounds.true-raw)
+returns-then-not-is_valid_bounds c =
+    rw (← call_tests _ c.args.device _ _, sym c.is_valid_bounds.ensures ∙ not-true _ c.if-not-is_valid_bounds.true-raw)
 
 pub returns-then-not-keeps_rules : goal.returns-then-not-keeps_rules
 returns-then-not-keeps_rules c = rw (

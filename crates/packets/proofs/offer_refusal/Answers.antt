@@ -20,12 +20,14 @@ use Rattle.packets.proofs.offer_refusal.Goals.{After-entry_place-start, Else-cou
 
 -- the entry's known bytes lie in the page
 inside : (c : After-entry_place-start) → c.entry_place-start.result + 68 ≤ length c.args.page.now
-inside c = let k = (call _ _ _ _ (both _ _ ((sym c.is_valid_packet_call.ensures ∙ not-false _ c.if-not-is_valid_packet_call.false-raw))).0) in
+inside c = let k = (call _ _ _ _ (both _ _ ((sym c.is_valid_packet_call.ensures ∙ not-false _ c.if-not-is_valid_packet_call.false-raw))).0)
+    in
     let low = taken_slot k.keeps c.args.slot (sym c.is_taken.ensures ∙ not-false _ c.if-not-is_taken.false-raw) in
     omega (arith, c.entry_place-start.ensures, k.is_page_length, known_inside c.args.geometry c.args.slot k.is_allowed low)
 
 -- the entry is left to decide
-formed : (c : Else-count) → first_refusal (offer_refusals c.args.geometry c.args.device c.args.area_size c.args.page.now c.args.slot c.args.packet.now)
+formed : (c : Else-count) → first_refusal
+    (offer_refusals c.args.geometry c.args.device c.args.area_size c.args.page.now c.args.slot c.args.packet.now)
     ≡ cond (not (all_offered (entry_at c.args.geometry c.args.page.now c.args.slot) (events_of c.args.packet.now))) not_offered 0
 unfolding first_refusal
 formed c = rw (
@@ -42,7 +44,8 @@ returns-then-not-is_valid_packet_call c = rw (sym c.is_valid_packet_call.ensures
 
 pub returns-then-not-device : goal.returns-then-not-device
 unfolding first_refusal
-returns-then-not-device c = rw ((sym c.is_valid_packet_call.ensures ∙ not-false _ c.if-not-is_valid_packet_call.false-raw), c.if-not-device.true)
+returns-then-not-device c = rw ((sym c.is_valid_packet_call.ensures ∙ not-false _ c.if-not-is_valid_packet_call.false-raw),
+    c.if-not-device.true)
 
 pub returns-then-not-is_taken : goal.returns-then-not-is_taken
 unfolding first_refusal

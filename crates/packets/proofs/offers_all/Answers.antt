@@ -8,12 +8,15 @@ use Rattle.packets.proofs.Laws.Offer.{offered_next, not_offered_lem, all_offered
 use Rattle.packets.proofs.offers_all.Goals as goal
 
 pub returns-then-not-is_offered : goal.returns-then-not-is_offered
-returns-then-not-is_offered c = not_offered_lem c.args.entry.now (events_of c.args.packet.now) c.loop-i.i (rw (counted c.args.packet.now) c.loop-i-test.true) c.loop-i.invariant
+returns-then-not-is_offered c =
+    not_offered_lem c.args.entry.now (events_of c.args.packet.now) c.loop-i.i (rw (counted c.args.packet.now) c.loop-i-test.true)
+    c.loop-i.invariant
     (rw (event_of_lem c.args.packet.now c.loop-i.i c.loop-i-test.true, ← c.decode.ensures)
     (sym c.is_offered.ensures ∙ not-true _ c.if-not-is_offered.true-raw))
 
 pub loop-i-preserved : goal.loop-i-preserved
-loop-i-preserved c = offered_next c.args.entry.now (events_of c.args.packet.now) c.loop-i.i (rw (counted c.args.packet.now) c.loop-i-test.true) c.loop-i.invariant
+loop-i-preserved c = offered_next c.args.entry.now (events_of c.args.packet.now) c.loop-i.i
+    (rw (counted c.args.packet.now) c.loop-i-test.true) c.loop-i.invariant
     (rw (event_of_lem c.args.packet.now c.loop-i.i c.loop-i-test.true, ← c.decode.ensures)
     (sym c.is_offered.ensures ∙ not-false _ c.if-not-is_offered.false-raw))
 

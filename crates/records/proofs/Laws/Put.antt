@@ -90,7 +90,8 @@ module _ (ring : Ring) (area : List ℕ) (holds : Holds (length area) ring) wher
         ∙ agree-event written area (record_place ring other) (apart (dec_lt other index))
       where
         apart : Dec (other < index) → Agree written area (record_place ring other) 8
-        apart (yes h) = overwrite-before area (record_place ring index) (event_bytes event) (record_place ring other) 8 (omega (arith, fits))
+        apart (yes h) = overwrite-before area (record_place ring index) (event_bytes event) (record_place ring other) 8
+            (omega (arith, fits))
             (place_apart (length area) ring holds other index h)
         apart (no h) =
             overwrite-after area (record_place ring index) (event_bytes event) (record_place ring other) 8 (omega (arith, fits))
@@ -113,7 +114,8 @@ module _ (ring : Ring) (area : List ℕ) (holds : Holds (length area) ring) wher
     pub moved-write_pointer : write_pointer (with_read_pointer area index) ≡ write_pointer area
     moved-write_pointer = agree_u32 (with_read_pointer area index) area 4 (moved_elsewhere 4 4 (omega arith))
 
-    pub moved_record : (other : ℕ) → event_at (with_read_pointer area index) (record_place ring other) ≡ event_at area (record_place ring other)
+    pub moved_record : (other : ℕ) → event_at (with_read_pointer area index) (record_place ring other) ≡ event_at area
+        (record_place ring other)
     moved_record other =
         agree-event (with_read_pointer area index) area (record_place ring other)
         (moved_elsewhere (record_place ring other) 8 (omega (arith, place_low (length area) ring holds other)))

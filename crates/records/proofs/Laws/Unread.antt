@@ -78,7 +78,8 @@ module _ (ring : Ring) (area : List ℕ) (holds : Holds (length area) ring) wher
 
   -- ---- a moved read pointer, and a read
 
-  pub moved_keeps : (moved index count : ℕ) → records_from ring (with_read_pointer area moved) index count ≡ records_from ring area index count
+  pub moved_keeps : (moved index count : ℕ)
+      → records_from ring (with_read_pointer area moved) index count ≡ records_from ring area index count
   moved_keeps moved index count =
       same_records ring (with_read_pointer area moved) area (λ i. moved_record ring area holds moved (i % ring.length)) index count
 

@@ -111,7 +111,8 @@ module _ (geometry : Geometry) (device : Device) (area : List ℕ) (value : ℕ)
   read_pointer_size index = overwrite-length area 0 (u32_bytes index) (omega (arith, room))
 
   cleared_size : length (cleared_pointers area) ≡ length area
-  cleared_size = overwrite-length (with_read_pointer area 0) 4 (u32_bytes 0) (omega (arith, room, read_pointer_size 0)) ∙ read_pointer_size 0
+  cleared_size = overwrite-length (with_read_pointer area 0) 4 (u32_bytes 0) (omega (arith, room, read_pointer_size 0))
+      ∙ read_pointer_size 0
 
   switch_size : (interrupts : Bool) → length (switch_on geometry device area interrupts).area ≡ length area
   switch_size interrupts =

@@ -20,10 +20,12 @@ pub overflow_sub-ring : goal.overflow_sub-ring
 overflow_sub-ring c = rw c.ring_of-ring.ensures (omega (arith, sizes c.args.geometry c.requires.0))
 
 pub returns-then-count-ring : goal.returns-then-count-ring
-returns-then-count-ring c = no_room_lem c.args.geometry c.args.device c.args.area.now c.args.interrupts (counted (goal.at.returns-then-count-ring c).After-start_count-count) (rw c.ring_of-ring.ensures at c.if-count-ring.true)
+returns-then-count-ring c = no_room_lem c.args.geometry c.args.device c.args.area.now c.args.interrupts
+    (counted (goal.at.returns-then-count-ring c).After-start_count-count) (rw c.ring_of-ring.ensures at c.if-count-ring.true)
 
 pub put_start-index-requires : goal.put_start-index-requires
-put_start-index-requires c = rw (c.ring_of-ring.ensures, c.clear_pointers.auto.area) (c.requires.1, omega (arith, sizes c.args.geometry c.requires.0))
+put_start-index-requires c = rw (c.ring_of-ring.ensures, c.clear_pointers.auto.area)
+    (c.requires.1, omega (arith, sizes c.args.geometry c.requires.0))
 
 pub returns : goal.returns
 returns c = starts c.args.geometry c.args.device c.args.area.now c.args.interrupts (counted (goal.at.returns c).After-start_count-count)

@@ -14,11 +14,14 @@ returns-then-value-lt100 c = rw (le-ltb c.args.value 10 (omega arith), lt-ltb c.
 
 pub returns-then-value-lt1000 : goal.returns-then-value-lt1000
 unfolding digit_count
-returns-then-value-lt1000 c = rw (le-ltb c.args.value 10 (omega arith), le-ltb c.args.value 100 (omega arith), lt-ltb c.args.value 1000 (omega arith)) (omega arith)
+returns-then-value-lt1000 c = rw
+    (le-ltb c.args.value 10 (omega arith), le-ltb c.args.value 100 (omega arith), lt-ltb c.args.value 1000 (omega arith)) (omega arith)
 
 pub returns-then-value-lt10000 : goal.returns-then-value-lt10000
 unfolding digit_count
-returns-then-value-lt10000 c = rw (le-ltb c.args.value 10 (omega arith), le-ltb c.args.value 100 (omega arith), le-ltb c.args.value 1000 (omega arith), lt-ltb c.args.value 10000 (omega arith))
+returns-then-value-lt10000 c = rw
+    (le-ltb c.args.value 10 (omega arith), le-ltb c.args.value 100 (omega arith), le-ltb c.args.value 1000 (omega arith),
+    lt-ltb c.args.value 10000 (omega arith))
     (omega arith)
 
 pub returns-then-value-lt100000 : goal.returns-then-value-lt100000

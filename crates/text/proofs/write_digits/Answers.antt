@@ -8,9 +8,11 @@ use Rattle.text.proofs.write_digits.Goals as goal
 pub loop-left-preserved : goal.loop-left-preserved
 loop-left-preserved c = (
       omega arith,
-      digits_go_on c.args.out.now c.args.at (digits c.args.count c.args.value) c.loop-left.out c.loop-left.left c.loop-left.rest c.loop-left.invariant.1
+      digits_go_on c.args.out.now c.args.at (digits c.args.count c.args.value)
+          c.loop-left.out c.loop-left.left c.loop-left.rest c.loop-left.invariant.1
           (omega arith) (omega arith),
     )
 
 pub returns : goal.returns
-returns c = digits_end c.args.out.now c.args.at (digits c.args.count c.args.value) c.loop-left.out c.loop-left.left c.loop-left.rest c.loop-left.invariant.1 (omega arith)
+returns c = digits_end c.args.out.now c.args.at (digits c.args.count c.args.value)
+    c.loop-left.out c.loop-left.left c.loop-left.rest c.loop-left.invariant.1 (omega arith)

@@ -60,8 +60,10 @@ returns-then-registers-ne0 c = named _ c.if-registers-gt2.false c.if-registers-n
 
 pub returns-then-not-registers : goal.returns-then-not-registers
 unfolding client_rev_rule
-returns-then-not-registers c = rw (c.if-registers-ne0.false, not-true c.args.registers.on c.if-not-registers.true) (zero-off c.args.registers.client_rev_written)
+returns-then-not-registers c = rw (c.if-registers-ne0.false, not-true c.args.registers.on c.if-not-registers.true)
+    (zero-off c.args.registers.client_rev_written)
 
 pub returns : goal.returns
 unfolding client_rev_rule
-returns c = rw (c.if-registers-ne0.false, not-false c.args.registers.on c.if-not-registers.false) (zero-on c.args.registers.client_rev_written)
+returns c = rw (c.if-registers-ne0.false, not-false c.args.registers.on c.if-not-registers.false)
+    (zero-on c.args.registers.client_rev_written)

@@ -44,7 +44,8 @@ returns-then-is_taken c = rw (
     )
 
 pub is_present-requires : goal.is_present-requires
-is_present-requires c = omega (arith, c.if-entry-geometry.false, (sizes _ ((call _ _ _ _ (sym c.is_valid_call.ensures ∙ not-false _ c.if-not-is_valid_call.false-raw))).is_allowed).entry_low)
+is_present-requires c = omega (arith, c.if-entry-geometry.false,
+    (sizes _ ((call _ _ _ _ (sym c.is_valid_call.ensures ∙ not-false _ c.if-not-is_valid_call.false-raw))).is_allowed).entry_low)
 
 pub returns-then-not-is_present : goal.returns-then-not-is_present
 unfolding add_answer first_refusal

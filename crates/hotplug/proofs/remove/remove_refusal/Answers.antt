@@ -14,7 +14,8 @@ returns-then-not-is_valid_call c = rw (← c.is_valid_call.ensures, c.if-not-is_
 
 pub returns-then-not-is_taken : goal.returns-then-not-is_taken
 unfolding remove_answer first_refusal
-returns-then-not-is_taken c = rw (← c.is_valid_call.ensures, c.if-not-is_valid_call.false-raw, ← c.is_taken.ensures, c.if-not-is_taken.true-raw)
+returns-then-not-is_taken c = rw
+    (← c.is_valid_call.ensures, c.if-not-is_valid_call.false-raw, ← c.is_taken.ensures, c.if-not-is_taken.true-raw)
 
 pub ring_of-requires : goal.ring_of-requires
 ring_of-requires c = ((call _ _ _ _ (sym c.is_valid_call.ensures ∙ not-false _ c.if-not-is_valid_call.false-raw))).is_allowed

@@ -5,7 +5,8 @@ use Rattle.hotplug.proofs.Laws.Result.{remove_refused, removed}
 use Rattle.hotplug.proofs.remove.remove_rule.Goals as goal
 
 pub returns-then-refusal-ne-DONE : goal.returns-then-refusal-ne-DONE
-returns-then-refusal-ne-DONE c = remove_refused c.args.geometry c.args.device c.args.area.now c.args.page.now c.args.slot c.if-refusal-ne-DONE.true c.answered.ensures
+returns-then-refusal-ne-DONE c =
+    remove_refused c.args.geometry c.args.device c.args.area.now c.args.page.now c.args.slot c.if-refusal-ne-DONE.true c.answered.ensures
     c.remove_refusal-refusal.ensures
 
 pub clear_entry-requires : goal.clear_entry-requires
@@ -13,10 +14,12 @@ clear_entry-requires c = let k = (remove_accepted _ _ _ _ _ ((sym c.remove_refus
     (k.shared.known.is_allowed, k.shared.in_range, k.shared.known.is_page_length)
 
 pub ring_of-ring-requires : goal.ring_of-ring-requires
-ring_of-ring-requires c = ((remove_accepted _ _ _ _ _ ((sym c.remove_refusal-refusal.ensures ∙ c.if-refusal-ne-DONE.false)))).shared.known.is_allowed
+ring_of-ring-requires c = ((remove_accepted _ _ _ _ _
+    ((sym c.remove_refusal-refusal.ensures ∙ c.if-refusal-ne-DONE.false)))).shared.known.is_allowed
 
 pub put_if-next-requires : goal.put_if-next-requires
-put_if-next-requires c = let k = ((remove_accepted _ _ _ _ _ ((sym c.remove_refusal-refusal.ensures ∙ c.if-refusal-ne-DONE.false)))).shared.known in
+put_if-next-requires c = let k =
+    ((remove_accepted _ _ _ _ _ ((sym c.remove_refusal-refusal.ensures ∙ c.if-refusal-ne-DONE.false)))).shared.known in
     rw c.ring_of-ring.ensures (k.holds, k.keeps.write_inside)
 
 pub clear-requires : goal.clear-requires

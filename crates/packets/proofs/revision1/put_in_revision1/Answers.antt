@@ -23,7 +23,8 @@ use Rattle.packets.proofs.revision1.put_in_revision1.Goals as goal
 use Rattle.packets.proofs.revision1.put_in_revision1.Goals.{Else-not-has_form, After-room_refusal-refusal}
 
 -- the packet has a form
-formed : (c : Else-not-has_form) → is_formed (revision_of c.args.device.registers) c.args.device.registers.acceleration (events_of c.args.packet.now) ≡ true
+formed : (c : Else-not-has_form)
+    → is_formed (revision_of c.args.device.registers) c.args.device.registers.acceleration (events_of c.args.packet.now) ≡ true
 formed c = rw c.requires.registers_value
     (sym (tells_form c.gesture_of-gesture.ensures _) ∙ sym c.has_form.ensures ∙ not-false _ c.if-not-has_form.false-raw)
 
@@ -47,11 +48,14 @@ returns-then-not-has_form c = λ slot.
     c.answered.ensures
 
 pub record_count-requires : goal.record_count-requires
-record_count-requires c = rw ((tells_whole c.gesture_of-gesture.ensures _ (sym c.has_form.ensures ∙ not-false _ c.if-not-has_form.false-raw))) (omega (arith, few_buttons (events_of c.args.packet.now), counted c.args.packet.now, c.requires.geometry_value.1))
+record_count-requires c = rw ((tells_whole c.gesture_of-gesture.ensures _
+    (sym c.has_form.ensures ∙ not-false _ c.if-not-has_form.false-raw)))
+    (omega (arith, few_buttons (events_of c.args.packet.now), counted c.args.packet.now, c.requires.geometry_value.1))
 
 pub returns-then-refusal-ne-DONE : goal.returns-then-refusal-ne-DONE
 returns-then-refusal-ne-DONE c = λ slot.
-    put_lost c.args.geometry c.args.device c.args.area.now slot c.args.packet.now (formed (goal.at.returns-then-refusal-ne-DONE c).Else-not-has_form) 
+    put_lost c.args.geometry c.args.device c.args.area.now slot c.args.packet.now
+        (formed (goal.at.returns-then-refusal-ne-DONE c).Else-not-has_form)
     (judged (goal.at.returns-then-refusal-ne-DONE c).After-room_refusal-refusal slot) c.if-refusal-ne-DONE.true
     (c.answered-then-refusal-ne-DONE.ensures ∙ ap (outcome_of _) c.lose.ensures)
 
@@ -66,7 +70,8 @@ returns c = λ slot.
     (rw c.requires.registers_value (rw c.ring_of-ring.ensures at c.put_group-next.ensures))
     (c.answered-2.ensures
     ∙ ap (outcome_of 0)
-    (c.accept.ensures ∙ rw (c.requires.registers_value, c.position_after.ensures, (tells_whole c.gesture_of-gesture.ensures _ (sym c.has_form.ensures ∙ not-false _ c.if-not-has_form.false-raw)))))
+    (c.accept.ensures ∙ rw (c.requires.registers_value, c.position_after.ensures,
+        (tells_whole c.gesture_of-gesture.ensures _ (sym c.has_form.ensures ∙ not-false _ c.if-not-has_form.false-raw)))))
 
 pub put_group-next-requires-clause-gesture_value : goal.put_group-next-requires-clause-gesture_value
 put_group-next-requires-clause-gesture_value c =

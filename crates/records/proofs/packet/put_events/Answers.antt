@@ -6,7 +6,8 @@ use Rattle.records.proofs.Laws.Packet.{counted, event_of_lem, turn_goes_on, turn
 use Rattle.records.proofs.packet.put_events.Goals as goal
 
 pub loop-i-preserved : goal.loop-i-preserved
-loop-i-preserved c = turn_goes_on c.args.ring c.args.index (events_of c.args.packet.now) c.args.area.now c.loop-i.invariant (rw (counted c.args.packet.now) c.loop-i-test.true)
+loop-i-preserved c = turn_goes_on c.args.ring c.args.index (events_of c.args.packet.now) c.args.area.now c.loop-i.invariant
+    (rw (counted c.args.packet.now) c.loop-i-test.true)
     (c.decode.ensures ∙ sym (event_of_lem c.args.packet.now c.loop-i.i c.loop-i-test.true))
     c.put_record-at.ensures.0 c.put_record-at.ensures.1 c.put_record-at.auto.area
 

@@ -19,4 +19,6 @@ returns-then-not-is_acceleration c = c.done-then-not-is_acceleration.ensures
 
 pub returns : goal.returns
 unfolding acceleration_of
-returns c = c.done-2.ensures ∙ rw (sym c.is_revision1.ensures ∙ not-false _ c.if-not-is_revision1.false-raw, (sym c.is_acceleration.ensures ∙ not-false _ c.if-not-is_acceleration.false-raw))
+returns c = c.done-2.ensures ∙ rw
+    (sym c.is_revision1.ensures ∙ not-false _ c.if-not-is_revision1.false-raw,
+    (sym c.is_acceleration.ensures ∙ not-false _ c.if-not-is_acceleration.false-raw))

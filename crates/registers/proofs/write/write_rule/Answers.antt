@@ -7,7 +7,8 @@ use Rattle.access.proofs.Laws.Access.{judged, granted}
 use Rattle.registers.proofs.write.write_rule.Goals as goal
 
 pub returns-then-refusal-ne-DONE : goal.returns-then-refusal-ne-DONE
-returns-then-refusal-ne-DONE c = write_refused c.args.geometry c.args.device c.args.area.now (length c.args.page.now) c.args.offset c.args.width c.args.value
+returns-then-refusal-ne-DONE c =
+    write_refused c.args.geometry c.args.device c.args.area.now (length c.args.page.now) c.args.offset c.args.width c.args.value
     (judged _ _ _ _ _ _ _ c.access_refusal-refusal.ensures c.is_valid_call-valid.ensures) c.if-refusal-ne-DONE.true
 
 pub write_at-requires : goal.write_at-requires

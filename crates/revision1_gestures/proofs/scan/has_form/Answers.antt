@@ -16,7 +16,9 @@ returns-then-is_repeated c = rw ((not-false _ c.if-not-gesture.false), sym c.is_
 
 pub returns-then-not-is_in_range : goal.returns-then-not-is_in_range
 unfolding has_form
-returns-then-not-is_in_range c = rw ((not-false _ c.if-not-gesture.false), (sym c.is_repeated.ensures ∙ c.if-is_repeated.false), sym c.is_in_range.ensures ∙ not-true _ c.if-not-is_in_range.true-raw)
+returns-then-not-is_in_range c =
+    rw ((not-false _ c.if-not-gesture.false), (sym c.is_repeated.ensures ∙ c.if-is_repeated.false), sym c.is_in_range.ensures
+    ∙ not-true _ c.if-not-is_in_range.true-raw)
 
 pub returns-then-not-is_in_range-2 : goal.returns-then-not-is_in_range-2
 unfolding has_form
@@ -29,8 +31,13 @@ returns-then-not-is_in_range-2 c = rw (
 
 pub returns-then-gesture-gt65535 : goal.returns-then-gesture-gt65535
 unfolding has_form
-returns-then-gesture-gt65535 c = rw ((not-false _ c.if-not-gesture.false), (sym c.is_repeated.ensures ∙ c.if-is_repeated.false), (sym c.is_in_range.ensures ∙ not-false _ c.if-not-is_in_range.false-raw), (sym c.is_in_range-2.ensures ∙ not-false _ c.if-not-is_in_range-2.false-raw), lt-leb _ _ c.if-gesture-gt65535.true)
+returns-then-gesture-gt65535 c =
+    rw ((not-false _ c.if-not-gesture.false), (sym c.is_repeated.ensures ∙ c.if-is_repeated.false),
+    (sym c.is_in_range.ensures ∙ not-false _ c.if-not-is_in_range.false-raw),
+    (sym c.is_in_range-2.ensures ∙ not-false _ c.if-not-is_in_range-2.false-raw), lt-leb _ _ c.if-gesture-gt65535.true)
 
 pub returns : goal.returns
 unfolding has_form
-returns c = rw ((not-false _ c.if-not-gesture.false), (sym c.is_repeated.ensures ∙ c.if-is_repeated.false), (sym c.is_in_range.ensures ∙ not-false _ c.if-not-is_in_range.false-raw), (sym c.is_in_range-2.ensures ∙ not-false _ c.if-not-is_in_range-2.false-raw), le-leb _ _ c.if-gesture-gt65535.false)
+returns c = rw ((not-false _ c.if-not-gesture.false), (sym c.is_repeated.ensures ∙ c.if-is_repeated.false),
+    (sym c.is_in_range.ensures ∙ not-false _ c.if-not-is_in_range.false-raw),
+    (sym c.is_in_range-2.ensures ∙ not-false _ c.if-not-is_in_range-2.false-raw), le-leb _ _ c.if-gesture-gt65535.false)

@@ -6,4 +6,5 @@ pub put_record-requires-clause-index_lt_length : goal.put_record-requires-clause
 put_record-requires-clause-index_lt_length c = (put_ready c.args.ring c.requires.holds.0 c.requires.holds.1 c.put_parts-fence.ensures).1
 
 pub returns : goal.returns
-returns c = put_next c.args.ring c.put_parts-fence.ensures (rw (← c.flagged.ensures) (put_one c.args.ring _ _ c.put_record.ensures.0 c.put_record.ensures.1))
+returns c = put_next c.args.ring c.put_parts-fence.ensures
+    (rw (← c.flagged.ensures) (put_one c.args.ring _ _ c.put_record.ensures.0 c.put_record.ensures.1))
