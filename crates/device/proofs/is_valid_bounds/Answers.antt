@@ -1,4 +1,4 @@
--- The pages decide first; then the write index against the ring, and the mask of taken slots by its length in bits (length-limit).
+-- The pages decide first; then the write index against the ring, and the mask of taken slots by its length in bits (length_limit).
 use mathlib.Core.Path.{◌≡◌, sym, ◌∙◌}
 use mathlib.Core.Bool.{true}
 use borrow.Author.Tests.{le-ltb, lt-ltb, not-true, not-false}

@@ -1,4 +1,4 @@
--- The definition asks for the rules in another grouping (call-tests): first those that the geometry bounds, then the others.
+-- The definition asks for the rules in another grouping (call_tests): first those that the geometry bounds, then the others.
 use mathlib.Core.Path.{sym, ◌∙◌}
 use borrow.Author.Tests.{not-true, not-false}
 use Rattle.device.proofs.Laws.Call.{call_tests}

@@ -1,4 +1,4 @@
--- No lost mark puts nothing; else two records, the second where the first left the ring (put-ready, put_next).
+-- No lost mark puts nothing; else two records, the second where the first left the ring (put_ready, put_next).
 use borrow.Author.Tests.{not-true, not-false}
 use Rattle.records.proofs.Laws.PutAll.{put_none, put_one, put_next}
 use Rattle.packet_records.proofs.put_lost.Goals as goal

@@ -1,4 +1,4 @@
--- Four puts, one after the other: each leaves the ring ready for the next (put-ready), and together they put the joined list (put_next).
+-- Four puts, one after the other: each leaves the ring ready for the next (put_ready), and together they put the joined list (put_next).
 use Rattle.records.proofs.Laws.PutAll.{put_one, put_next, put_ready}
 use Rattle.packet_records.proofs.put_packet.Goals as goal
 

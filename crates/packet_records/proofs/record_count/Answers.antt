@@ -1,4 +1,4 @@
--- The sum of the parts' lengths (records-count); each part is small, so the sum doesn't overflow.
+-- The sum of the parts' lengths (records_count); each part is small, so the sum doesn't overflow.
 use Rattle.packet_records.proofs.Laws.Put.{records_count}
 use Rattle.packet_records.proofs.record_count.Goals as goal
 

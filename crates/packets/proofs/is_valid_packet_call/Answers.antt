@@ -1,4 +1,4 @@
--- The rules in the grouping of call-tests, then the packet's length.
+-- The rules in the grouping of call_tests, then the packet's length.
 use mathlib.Core.Path.{sym, ◌∙◌}
 use borrow.Author.Tests.{not-true, not-false}
 use Rattle.device.proofs.Laws.Call.{call_tests}

@@ -1,4 +1,4 @@
--- Refused by the call, the packet or the entry (packet-refused); else put or refused by the revision's own function (packet-offered).
+-- Refused by the call, the packet or the entry (packet_refused); else put or refused by the revision's own function (packet_offered).
 use mathlib.Core.Path.{◌≡◌, sym, ◌∙◌}
 use lib.ListN.{length}
 use Rattle.packets.proofs.Laws.Rule.{Offered, offered_by, packet_refused, packet_offered}

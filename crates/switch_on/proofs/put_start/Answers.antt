@@ -1,4 +1,4 @@
--- In revision 2 DEV_RESET leaves the ring ready for the slots' records (put-ready), and both together are the start's (put_next).
+-- In revision 2 DEV_RESET leaves the ring ready for the slots' records (put_ready), and both together are the start's (put_next).
 use Rattle.records.proofs.Laws.PutAll.{put_none, put_one, put_next}
 use Rattle.switch_on.proofs.put_start.Goals as goal
 

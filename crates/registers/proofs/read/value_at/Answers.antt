@@ -1,4 +1,4 @@
--- The place decides: one return a place, each the definition's line for it; words of the pages lie within them (area-word, page-word).
+-- The place decides: one return a place, each the definition's line for it; words of the pages lie within them (area_word, page_word).
 use Rattle.access.proofs.Laws.Place.{area_begins, page_begins}
 use Rattle.access.proofs.Laws.Access.{granted, pointer_inside, area_word, page_word}
 use mathlib.Core.Path.{sym, ◌∙◌}

@@ -1,4 +1,4 @@
--- No button gives no record (no-buttons); else each is looked at.
+-- No button gives no record (no_buttons); else each is looked at.
 use mathlib.Core.Path.{sym, ◌∙◌}
 use Rattle.records.proofs.Laws.PutAll.{put_none}
 use Rattle.revision1_records.proofs.Laws.Buttons.{no_buttons}
