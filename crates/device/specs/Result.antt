@@ -1,6 +1,5 @@
 -- What a call of the device leaves.
 use Rattle.std.specs.Prelude.{ℕ, List}
-use Rattle.answers.specs.Answers.{done}
 use Rattle.device.specs.declared.Device.{Device}
 use Rattle.device.specs.declared.Outcome.{Outcome}
 

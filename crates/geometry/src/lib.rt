@@ -25,6 +25,7 @@ pub struct Ring {
 }
 
 // The powers of two from 8 to 64. Four compares would become a test by counted zeros, which takes more instructions.
+#[tactic(auto, unfolding(crate::specs::Geometry::is_record_size))]
 fn is_record_size(size: u32) -> bool
     ensures { result ≡ is_record_size size }
 {
@@ -37,6 +38,7 @@ fn is_record_size(size: u32) -> bool
     size & (size - 1) == 0
 }
 
+#[tactic(auto, unfolding(crate::specs::Geometry::is_entry_size))]
 fn is_entry_size(size: u32) -> bool
     ensures { result ≡ is_entry_size size }
 {
@@ -49,6 +51,7 @@ fn is_entry_size(size: u32) -> bool
     size % 4 == 0
 }
 
+#[tactic(auto, unfolding(crate::specs::Geometry::allowed))]
 pub fn is_allowed(geometry: Geometry) -> bool
     ensures { result ≡ allowed geometry }
 {

@@ -1,5 +1,5 @@
 -- What becomes of a packet (01, "Numbers a caller can get"): 1, 5, 6, 9, 8, 10, 7; then it is put whole.
-use Rattle.std.specs.Prelude.{ℕ, Bool, true, false, not, ◌&&◌, ◌||◌, cond, List, [], ◌∷◌, ◌++◌, ltb, eqb, length}
+use Rattle.std.specs.Prelude.{ℕ, Bool, true, not, ◌&&◌, ◌||◌, cond, List, [], ◌∷◌, ◌++◌, ltb, eqb, length}
 use Rattle.answers.specs.Answers.{done, invalid, device_off, bad_slot, no_room, not_offered, malformed, bad_index}
 use Rattle.answers.specs.Refusals.{first_refusal}
 use Rattle.geometry.specs.declared.Geometry.{Geometry}

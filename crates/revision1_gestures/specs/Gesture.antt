@@ -1,5 +1,5 @@
 -- What a packet has that revision 1 can tell (02, E1): X and Y, relative and absolute, the vertical wheel, and buttons.
-use Rattle.std.specs.Prelude.{ℕ, ◌+◌, Bool, true, false, ◌&&◌, ◌||◌, cond, List, [], ◌∷◌, leb, eqb, length}
+use Rattle.std.specs.Prelude.{ℕ, ◌+◌, Bool, true, ◌&&◌, ◌||◌, cond, List, [], ◌∷◌, leb, eqb, length}
 use Rattle.bits.specs.Bits.{bit_of}
 use Rattle.records.specs.declared.Event.{Event}
 use Rattle.records.specs.Codes.{ev_key, ev_rel, ev_abs, rel_x, rel_y, rel_wheel, abs_x, abs_y, btn_left, btn_middle}

@@ -21,7 +21,7 @@ use Rattle.access.proofs.Laws.Place.{area_begins, area_ends, page_begins}
 pub judged : (geometry : Geometry) (device : Device) (area_size page_size : ℕ) (writes : Bool) (offset width : ℕ)
     {called : Bool} {answer : ℕ}
     → answer ≡ first_refusal (access_refusals called geometry writes offset width)
-        → called ≡ is_valid_call geometry device area_size page_size
+    → called ≡ is_valid_call geometry device area_size page_size
     → answer ≡ access_answer geometry device area_size page_size writes offset width
 unfolding access_answer
 judged geometry device area_size page_size writes offset width first called =

@@ -18,23 +18,23 @@ Passed count rows = first_refusal rows ≡ first_refusal (drop count rows)
 inside : (c : Else-offset-bar_length) → Passed 4 (access_refusals c.args.valid c.args.geometry c.args.writes c.args.offset c.args.width)
 unfolding first_refusal
 inside c = rw (
-      not-false c.args.valid c.if-not-valid.false-raw,
-      eq-eqb _ _ c.if-width-ne4.false,
-      eq-eqb _ _ c.if-offset-ne0.false,
-      ← c.bar_length.ensures,
-      lt-leb _ _ c.if-offset-bar_length.false,
-    )
+  not-false c.args.valid c.if-not-valid.false-raw,
+  eq-eqb _ _ c.if-width-ne4.false,
+  eq-eqb _ _ c.if-offset-ne0.false,
+  ← c.bar_length.ensures,
+  lt-leb _ _ c.if-offset-bar_length.false,
+)
 
 -- a word within the BAR
 inside_2 : (c : Else-is_nothing) → Passed 4 (access_refusals c.args.valid c.args.geometry c.args.writes c.args.offset c.args.width)
 unfolding first_refusal
 inside_2 c = rw (
-      not-false c.args.valid c.if-not-valid.false-raw,
-      eq-eqb _ _ c.if-width-ne4.false,
-      eq-eqb _ _ c.if-offset-ne0.false,
-      ← c.bar_length.ensures,
-      lt-leb _ _ c.if-offset-bar_length.false,
-    )
+  not-false c.args.valid c.if-not-valid.false-raw,
+  eq-eqb _ _ c.if-width-ne4.false,
+  eq-eqb _ _ c.if-offset-ne0.false,
+  ← c.bar_length.ensures,
+  lt-leb _ _ c.if-offset-bar_length.false,
+)
 
 -- where something stands
 placed : (c : Else-is_nothing) → Passed 5 (access_refusals c.args.valid c.args.geometry c.args.writes c.args.offset c.args.width)
@@ -53,20 +53,20 @@ returns-then-width-ne4 c = rw (not-false c.args.valid c.if-not-valid.false-raw, 
 pub returns-then-offset-ne0 : goal.returns-then-offset-ne0
 unfolding first_refusal
 returns-then-offset-ne0 c = rw (
-      not-false c.args.valid c.if-not-valid.false-raw,
-      eq-eqb _ _ c.if-width-ne4.false,
-      ne_eqb _ _ c.if-offset-ne0.true,
-    )
+  not-false c.args.valid c.if-not-valid.false-raw,
+  eq-eqb _ _ c.if-width-ne4.false,
+  ne_eqb _ _ c.if-offset-ne0.true,
+)
 
 pub returns-then-offset-bar_length : goal.returns-then-offset-bar_length
 unfolding first_refusal
 returns-then-offset-bar_length c = rw (
-      not-false c.args.valid c.if-not-valid.false-raw,
-      eq-eqb _ _ c.if-width-ne4.false,
-      eq-eqb _ _ c.if-offset-ne0.false,
-      ← c.bar_length.ensures,
-      le-leb _ _ c.if-offset-bar_length.true,
-    )
+  not-false c.args.valid c.if-not-valid.false-raw,
+  eq-eqb _ _ c.if-width-ne4.false,
+  eq-eqb _ _ c.if-offset-ne0.false,
+  ← c.bar_length.ensures,
+  le-leb _ _ c.if-offset-bar_length.true,
+)
 
 pub returns-then-is_nothing : goal.returns-then-is_nothing
 unfolding first_refusal

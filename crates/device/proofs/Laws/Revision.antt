@@ -1,14 +1,14 @@
 -- Of a device that is on, CLIENT_REV tells the revision: it is 2, or the device serves revision 1.
 use Prim.Native.Nat.{ℕ}
-use mathlib.Core.Path.{◌≡◌, refl, sym, ◌∙◌}
-use mathlib.Core.Bool.{Bool, true, false, not, ◌&&◌, ◌||◌, false≢true}
+use mathlib.Core.Path.{◌≡◌, refl}
+use mathlib.Core.Bool.{Bool, true, false, not, ◌||◌, false≢true}
 use lib.Dec.{eqb}
 use borrow.Author.Tests.{eqb-true}
 use Rattle.geometry.proofs.Laws.Allowed.{both}
 use Rattle.device.specs.declared.Registers.{Registers}
 use Rattle.device.specs.declared.Revision.{Revision}
 use Rattle.device.specs.declared.Revision.TheVariants.{One, Two}
-use Rattle.device.specs.Revision.{is_revision1, is_revision2, may_run, revision_for, revision_of}
+use Rattle.device.specs.Revision.{is_revision1, may_run, revision_for, revision_of}
 use Rattle.device.specs.State.{is_client_rev, client_rev_rule}
 
 abbrev pub is_one : Revision → Bool

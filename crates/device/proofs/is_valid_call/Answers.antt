@@ -10,7 +10,7 @@ returns-then-not-is_valid_bounds c =
 
 pub returns : goal.returns
 returns c = rw (
-      ← call_tests _ c.args.device _ _,
-      sym c.is_valid_bounds.ensures ∙ not-false _ c.if-not-is_valid_bounds.false-raw,
-    )
+  ← call_tests _ c.args.device _ _,
+  sym c.is_valid_bounds.ensures ∙ not-false _ c.if-not-is_valid_bounds.false-raw,
+)
     c.keeps_rules.ensures

@@ -11,15 +11,15 @@ returns-then-not-is_allowed c = rw (sym c.is_allowed.ensures ∙ not-true _ c.if
 pub returns-then-area_size-area_length : goal.returns-then-area_size-area_length
 unfolding is_valid_pages
 returns-then-area_size-area_length c = rw (
-      sym c.is_allowed.ensures ∙ not-false _ c.if-not-is_allowed.false-raw,
-      ← c.area_length.ensures,
-      ne_eqb _ _ c.if-area_size-area_length.true,
-    )
+  sym c.is_allowed.ensures ∙ not-false _ c.if-not-is_allowed.false-raw,
+  ← c.area_length.ensures,
+  ne_eqb _ _ c.if-area_size-area_length.true,
+)
 
 pub returns : goal.returns
 unfolding is_valid_pages
 returns c = rw (
-      sym c.is_allowed.ensures ∙ not-false _ c.if-not-is_allowed.false-raw,
-      ← c.area_length.ensures,
-      eq-eqb _ _ c.if-area_size-area_length.false,
-    )
+  sym c.is_allowed.ensures ∙ not-false _ c.if-not-is_allowed.false-raw,
+  ← c.area_length.ensures,
+  eq-eqb _ _ c.if-area_size-area_length.false,
+)

@@ -15,17 +15,17 @@ returns-then-read-ring c = rw (ne_eqb _ _ c.if-count-eq0.false, ← c.read_point
 pub returns-then-not-has_room : goal.returns-then-not-has_room
 unfolding first_refusal
 returns-then-not-has_room c = rw (
-      ne_eqb _ _ c.if-count-eq0.false,
-      ← c.read_pointer-read.ensures,
-      lt-leb _ _ c.if-read-ring.false,
-      sym c.has_room.ensures ∙ not-true _ c.if-not-has_room.true-raw,
-    )
+  ne_eqb _ _ c.if-count-eq0.false,
+  ← c.read_pointer-read.ensures,
+  lt-leb _ _ c.if-read-ring.false,
+  sym c.has_room.ensures ∙ not-true _ c.if-not-has_room.true-raw,
+)
 
 pub returns : goal.returns
 unfolding first_refusal
 returns c = rw (
-      ne_eqb _ _ c.if-count-eq0.false,
-      ← c.read_pointer-read.ensures,
-      lt-leb _ _ c.if-read-ring.false,
-      sym c.has_room.ensures ∙ not-false _ c.if-not-has_room.false-raw,
-    )
+  ne_eqb _ _ c.if-count-eq0.false,
+  ← c.read_pointer-read.ensures,
+  lt-leb _ _ c.if-read-ring.false,
+  sym c.has_room.ensures ∙ not-false _ c.if-not-has_room.false-raw,
+)

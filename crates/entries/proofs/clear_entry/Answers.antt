@@ -1,5 +1,4 @@
 -- As many zeros as the slot's own stretch has bytes: it lies in the page since the slot is in range.
-use Prim.Native.Nat.{◌+◌, ◌≤◌}
 use native.Mathlib.Omega.{arith}
 use Rattle.geometry.proofs.Laws.Allowed.{sizes}
 use Rattle.geometry.proofs.Laws.Slots.{entry_inside}

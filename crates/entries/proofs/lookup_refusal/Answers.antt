@@ -1,6 +1,5 @@
 -- The first three tests passed say that the entry's known bytes lie in the page, so the fourth may read them.
 use Prim.Native.Nat.{◌+◌, ◌≤◌}
-use mathlib.Core.Bool.{true}
 use lib.ListN.{length, drop}
 use Rattle.geometry.specs.Geometry.{slot_count}
 use native.Mathlib.Omega.{arith}
@@ -58,7 +57,7 @@ pub returns-then-not-is_present : goal.returns-then-not-is_present
 unfolding first_refusal
 returns-then-not-is_present c = let part = known_part c.args.geometry c.args.page.now c.args.slot c.entry_place-start.ensures in
     sym (in_range (goal.at.returns-then-not-is_present c).Else-not-is_slot
-        ∙ rw (← part, ← c.is_present.ensures, c.if-not-is_present.true-raw))
+    ∙ rw (← part, ← c.is_present.ensures, c.if-not-is_present.true-raw))
 
 pub returns : goal.returns
 unfolding first_refusal

@@ -1,5 +1,4 @@
 -- The stretch lent is the slot's own, which lies in the page since the slot is in range; a copy over all of it is the entry.
-use Prim.Native.Nat.{◌+◌, ◌≤◌}
 use native.Mathlib.Omega.{arith}
 use Rattle.geometry.proofs.Laws.Allowed.{sizes}
 use Rattle.geometry.proofs.Laws.Slots.{entry_inside}

@@ -49,7 +49,7 @@ pub powers : (size : ℕ) → 8 ≤ size → size ≤ 64 → eqb (bit_and size (
 unfolding is_power
 powers size low high =
     subst (λ (n : ℕ). eqb (bit_and n (n - 1)) 0 ≡ is_record_size n) (omega (arith, low))
-        (each 57 on_all (size - 8) (omega (arith, low, high)))
+    (each 57 on_all (size - 8) (omega (arith, low, high)))
 
 pub too_small : (size : ℕ) → size < 8 → false ≡ is_record_size size
 unfolding is_record_size

@@ -9,7 +9,6 @@ use borrow.Author.Tests.{eq-eqb, ne_eqb}
 use Rattle.bits.proofs.Laws.{set_other, set_below, clear_other, clear_below}
 use Rattle.geometry.specs.declared.Geometry.{Geometry}
 use Rattle.geometry.specs.Geometry.{ring_of, slot_count}
-use Rattle.records.specs.Codes.{no_slot}
 use Rattle.records.proofs.Laws.PutAll.{after_inside}
 use Rattle.device.specs.declared.Device.{Device}
 use Rattle.device.specs.State.{is_taken, current_rule}

@@ -9,4 +9,4 @@ returns-then-not-lost c = rw (not-true c.args.lost c.if-not-lost.true-raw) (put_
 pub returns : goal.returns
 returns c = rw (not-false c.args.lost c.if-not-lost.false-raw, ← c.syn_record.ensures, ← c.syn_record-2.ensures)
     (put_next c.args.ring (put_one c.args.ring _ _ c.put_record-report.ensures.0 c.put_record-report.ensures.1)
-        (put_one c.args.ring _ _ c.put_record.ensures.0 c.put_record.ensures.1))
+    (put_one c.args.ring _ _ c.put_record.ensures.0 c.put_record.ensures.1))

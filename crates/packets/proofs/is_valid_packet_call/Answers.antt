@@ -10,14 +10,14 @@ returns-then-not-is_valid_bounds c =
 
 pub returns-then-not-keeps_rules : goal.returns-then-not-keeps_rules
 returns-then-not-keeps_rules c = rw (
-      ← call_tests _ c.args.device _ _,
-      sym c.is_valid_bounds.ensures ∙ not-false _ c.if-not-is_valid_bounds.false-raw,
-      sym c.keeps_rules.ensures ∙ not-true _ c.if-not-keeps_rules.true-raw,
-    )
+  ← call_tests _ c.args.device _ _,
+  sym c.is_valid_bounds.ensures ∙ not-false _ c.if-not-is_valid_bounds.false-raw,
+  sym c.keeps_rules.ensures ∙ not-true _ c.if-not-keeps_rules.true-raw,
+)
 
 pub returns : goal.returns
 returns c = rw (
-      ← call_tests _ c.args.device _ _,
-      sym c.is_valid_bounds.ensures ∙ not-false _ c.if-not-is_valid_bounds.false-raw,
-      sym c.keeps_rules.ensures ∙ not-false _ c.if-not-keeps_rules.false-raw,
-    )
+  ← call_tests _ c.args.device _ _,
+  sym c.is_valid_bounds.ensures ∙ not-false _ c.if-not-is_valid_bounds.false-raw,
+  sym c.keeps_rules.ensures ∙ not-false _ c.if-not-keeps_rules.false-raw,
+)

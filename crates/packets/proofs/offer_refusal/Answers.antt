@@ -1,7 +1,7 @@
 -- Each return is one row of the table: the tests before it rewrite it to the answer. The entry decides last.
 use Prim.Native.Nat.{◌+◌, ◌≤◌}
 use mathlib.Core.Path.{◌≡◌, sym, ◌∙◌}
-use mathlib.Core.Bool.{true, not, cond}
+use mathlib.Core.Bool.{not, cond}
 use native.Mathlib.Omega.{arith}
 use lib.ListN.{length}
 use borrow.Author.Tests.{not-true, not-false, le-ltb, lt-ltb}
@@ -14,7 +14,7 @@ use Rattle.entries.proofs.Laws.Lookup.{known_part, known_inside}
 use Rattle.device.proofs.Laws.Rules.{taken_slot}
 use Rattle.device.proofs.Laws.Call.{call}
 use Rattle.packets.specs.Packet.{all_offered}
-use Rattle.packets.specs.Rule.{is_valid_packet_call, offer_refusals}
+use Rattle.packets.specs.Rule.{offer_refusals}
 use Rattle.packets.proofs.offer_refusal.Goals as goal
 use Rattle.packets.proofs.offer_refusal.Goals.{After-entry_place-start, Else-count}
 
@@ -31,12 +31,12 @@ formed : (c : Else-count) → first_refusal
     ≡ cond (not (all_offered (entry_at c.args.geometry c.args.page.now c.args.slot) (events_of c.args.packet.now))) not_offered 0
 unfolding first_refusal
 formed c = rw (
-      (sym c.is_valid_packet_call.ensures ∙ not-false _ c.if-not-is_valid_packet_call.false-raw),
-      c.if-not-device.false,
-      sym c.is_taken.ensures ∙ not-false _ c.if-not-is_taken.false-raw,
-      le-ltb _ _ c.if-count-lt1.false,
-      le-ltb _ _ c.if-count.false,
-    )
+  (sym c.is_valid_packet_call.ensures ∙ not-false _ c.if-not-is_valid_packet_call.false-raw),
+  c.if-not-device.false,
+  sym c.is_taken.ensures ∙ not-false _ c.if-not-is_taken.false-raw,
+  le-ltb _ _ c.if-count-lt1.false,
+  le-ltb _ _ c.if-count.false,
+)
 
 pub returns-then-not-is_valid_packet_call : goal.returns-then-not-is_valid_packet_call
 unfolding first_refusal
@@ -44,35 +44,37 @@ returns-then-not-is_valid_packet_call c = rw (sym c.is_valid_packet_call.ensures
 
 pub returns-then-not-device : goal.returns-then-not-device
 unfolding first_refusal
-returns-then-not-device c = rw ((sym c.is_valid_packet_call.ensures ∙ not-false _ c.if-not-is_valid_packet_call.false-raw),
-    c.if-not-device.true)
+returns-then-not-device c = rw (
+  (sym c.is_valid_packet_call.ensures ∙ not-false _ c.if-not-is_valid_packet_call.false-raw),
+  c.if-not-device.true,
+)
 
 pub returns-then-not-is_taken : goal.returns-then-not-is_taken
 unfolding first_refusal
 returns-then-not-is_taken c = rw (
-      (sym c.is_valid_packet_call.ensures ∙ not-false _ c.if-not-is_valid_packet_call.false-raw),
-      c.if-not-device.false,
-      sym c.is_taken.ensures ∙ not-true _ c.if-not-is_taken.true-raw,
-    )
+  (sym c.is_valid_packet_call.ensures ∙ not-false _ c.if-not-is_valid_packet_call.false-raw),
+  c.if-not-device.false,
+  sym c.is_taken.ensures ∙ not-true _ c.if-not-is_taken.true-raw,
+)
 
 pub returns-then-count-lt1 : goal.returns-then-count-lt1
 unfolding first_refusal
 returns-then-count-lt1 c = rw (
-      (sym c.is_valid_packet_call.ensures ∙ not-false _ c.if-not-is_valid_packet_call.false-raw),
-      c.if-not-device.false,
-      sym c.is_taken.ensures ∙ not-false _ c.if-not-is_taken.false-raw,
-      lt-ltb _ _ c.if-count-lt1.true,
-    )
+  (sym c.is_valid_packet_call.ensures ∙ not-false _ c.if-not-is_valid_packet_call.false-raw),
+  c.if-not-device.false,
+  sym c.is_taken.ensures ∙ not-false _ c.if-not-is_taken.false-raw,
+  lt-ltb _ _ c.if-count-lt1.true,
+)
 
 pub returns-then-count : goal.returns-then-count
 unfolding first_refusal
 returns-then-count c = rw (
-      (sym c.is_valid_packet_call.ensures ∙ not-false _ c.if-not-is_valid_packet_call.false-raw),
-      c.if-not-device.false,
-      sym c.is_taken.ensures ∙ not-false _ c.if-not-is_taken.false-raw,
-      le-ltb _ _ c.if-count-lt1.false,
-      lt-ltb _ _ c.if-count.true,
-    )
+  (sym c.is_valid_packet_call.ensures ∙ not-false _ c.if-not-is_valid_packet_call.false-raw),
+  c.if-not-device.false,
+  sym c.is_taken.ensures ∙ not-false _ c.if-not-is_taken.false-raw,
+  le-ltb _ _ c.if-count-lt1.false,
+  lt-ltb _ _ c.if-count.true,
+)
 
 pub slice_bounds-offers_all-end : goal.slice_bounds-offers_all-end
 slice_bounds-offers_all-end c = omega (arith, inside (goal.at.slice_bounds-offers_all-end c).After-entry_place-start)
@@ -80,15 +82,15 @@ slice_bounds-offers_all-end c = omega (arith, inside (goal.at.slice_bounds-offer
 pub returns-then-not-offers_all : goal.returns-then-not-offers_all
 unfolding first_refusal
 returns-then-not-offers_all c = rw (
-      formed (goal.at.returns-then-not-offers_all c).Else-count,
-      ← known_part c.args.geometry _ _ c.entry_place-start.ensures,
-      sym c.offers_all.ensures ∙ not-true _ c.if-not-offers_all.true-raw,
-    )
+  formed (goal.at.returns-then-not-offers_all c).Else-count,
+  ← known_part c.args.geometry _ _ c.entry_place-start.ensures,
+  sym c.offers_all.ensures ∙ not-true _ c.if-not-offers_all.true-raw,
+)
 
 pub returns : goal.returns
 unfolding first_refusal
 returns c = rw (
-      formed (goal.at.returns c).Else-count,
-      ← known_part c.args.geometry _ _ c.entry_place-start.ensures,
-      sym c.offers_all.ensures ∙ not-false _ c.if-not-offers_all.false-raw,
-    )
+  formed (goal.at.returns c).Else-count,
+  ← known_part c.args.geometry _ _ c.entry_place-start.ensures,
+  sym c.offers_all.ensures ∙ not-false _ c.if-not-offers_all.false-raw,
+)

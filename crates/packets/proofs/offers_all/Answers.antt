@@ -1,6 +1,5 @@
 -- The events before the i-th are offered, so the rest decides: that is the loop's invariant.
-use Prim.Native.Nat.{◌-◌}
-use mathlib.Core.Path.{◌≡◌, sym, ◌∙◌}
+use mathlib.Core.Path.{sym, ◌∙◌}
 use borrow.Author.Tests.{not-true, not-false}
 use Rattle.records.specs.Packet.{events_of}
 use Rattle.records.proofs.Laws.Packet.{counted, event_of_lem}

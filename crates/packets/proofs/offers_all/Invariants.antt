@@ -1,6 +1,6 @@
 -- The events before the i-th are offered, so the rest decides: that is the loop's invariant.
 use Prim.Native.Nat.{◌-◌}
-use mathlib.Core.Path.{◌≡◌, ◌∙◌}
+use mathlib.Core.Path.{◌≡◌}
 use lib.ListN.{drop}
 use Rattle.records.specs.Packet.{events_of}
 use Rattle.packets.specs.Packet.{all_offered}

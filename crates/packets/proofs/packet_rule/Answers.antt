@@ -1,5 +1,5 @@
 -- Refused by the call, the packet or the entry (packet_refused); else put or refused by the revision's own function (packet_offered).
-use mathlib.Core.Path.{◌≡◌, sym, ◌∙◌}
+use mathlib.Core.Path.{sym, ◌∙◌}
 use lib.ListN.{length}
 use Rattle.packets.proofs.Laws.Rule.{Offered, offered_by, packet_refused, packet_offered}
 use Rattle.packets.proofs.packet_rule.Goals as goal

@@ -75,7 +75,7 @@ module _ (ring : Ring) where
   puts_read_pointer index [] area holds h = refl
   puts_read_pointer index (event ∷ rest) area holds h =
       puts_read_pointer (next_index ring index) rest (put_record ring index event area)
-          (rw (put-length ring area holds index event h) holds)
+      (rw (put-length ring area holds index event h) holds)
       (next_inside ring index h)
       ∙ put-read_pointer ring area holds index event h
 
@@ -87,7 +87,7 @@ module _ (ring : Ring) where
   puts_write_pointer index [] area holds h e = e
   puts_write_pointer index (event ∷ rest) area holds h e =
       puts_write_pointer (next_index ring index) rest (put_record ring index event area)
-          (rw (put-length ring area holds index event h) holds)
+      (rw (put-length ring area holds index event h) holds)
       (next_inside ring index h) (put-write_pointer ring area holds index event h)
 
   pub puts_unread : (read write : ℕ) (events : List Event) (area : List ℕ) → Holds (length area) ring → read < ring.length
@@ -99,7 +99,7 @@ module _ (ring : Ring) where
   puts_unread read write (event ∷ rest) area holds r w fits room =
       let more = unread_more ring read write r w (omega arith) in
       puts_unread read (next_index ring write) rest (put_record ring write event area) (rw (put-length ring area holds write event w) holds)
-          r
+      r
       (next_inside ring write w) fits.1 (omega (arith, more))
       ∙ ap (λ (l : List Event). l ++ rest) (put_appends ring area holds read write event r w fits.0 (omega arith))
       ∙ append_assoc (unread ring area read write) (event ∷ []) rest

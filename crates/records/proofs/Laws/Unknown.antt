@@ -17,7 +17,6 @@ use Rattle.records.specs.Unread.{record_at, SameToDriver}
 use Rattle.records.proofs.Laws.Event.{agree-event}
 use Rattle.records.proofs.Laws.Place.{place_low, place_inside}
 use Rattle.records.proofs.Laws.Put.{moved_length, moved_elsewhere}
-use Rattle.records.proofs.Laws.Unread.{same_records}
 
 module _ (ring : Ring) (left right : List ℕ) (same : SameToDriver ring left right) where
   pub same_read_pointer : read_pointer left ≡ read_pointer right

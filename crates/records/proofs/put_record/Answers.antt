@@ -1,5 +1,4 @@
 -- The record's eight bytes are lent as a part, which lies in the area; then the write pointer is stored: the definition's two writes.
-use Prim.Native.Nat.{◌+◌, ◌≤◌}
 use Rattle.records.proofs.Laws.Put.{put-done}
 use Rattle.records.proofs.put_record.Goals as goal
 

@@ -80,5 +80,5 @@ module _ {read whole : Gesture} (tells : Tells read whole) (acceleration : ℕ) 
   pub tells_whole : has_form acceleration read ≡ true → read ≡ whole
   tells_whole formed =
       let plain = (both (is_plain read) (is_motion acceleration read && is_position read)
-          (sym (plain_form acceleration read) ∙ formed)).0 in
+      (sym (plain_form acceleration read) ∙ formed)).0 in
       tells.1 (sym tells.0 ∙ plain)

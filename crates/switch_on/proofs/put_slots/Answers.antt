@@ -1,5 +1,4 @@
 -- The records of the slots from the current one on remain to be put, from where the area and the index are now (SlotsRemain).
-use Prim.Native.Nat.{◌-◌}
 use Rattle.switch_on.proofs.Laws.Put.{slots_go_on, slots_end}
 use Rattle.switch_on.proofs.put_slots.Goals as goal
 

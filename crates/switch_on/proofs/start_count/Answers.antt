@@ -1,5 +1,4 @@
 -- None in revision 1; in revision 2 the taken slots, and one record more.
-use mathlib.Core.Path.{◌∙◌}
 use native.Mathlib.Omega.{arith}
 use Rattle.switch_on.proofs.Laws.Slots.{few_taken}
 use Rattle.switch_on.proofs.start_count.Goals as goal

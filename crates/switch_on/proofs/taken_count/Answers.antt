@@ -1,6 +1,5 @@
 -- What is counted and what is left to count add up to all (Counted).
 use mathlib.Core.Path.{◌∙◌}
-use Prim.Native.Nat.{◌-◌}
 use Rattle.switch_on.proofs.Laws.Slots.{count_goes_on, count_ends}
 use Rattle.switch_on.proofs.taken_count.Goals as goal
 

@@ -1,5 +1,4 @@
 -- What is counted and what is left to count add up to all (Counted).
-use mathlib.Core.Path.{◌∙◌}
 use Prim.Native.Nat.{◌-◌}
 use Rattle.switch_on.proofs.Laws.Slots.{Counted}
 use Rattle.switch_on.proofs.taken_count.Given as goal

@@ -20,4 +20,4 @@ returns-then-kind-eq-EV_KEY c = c.offers_button.ensures ∙ sym (of_buttons c.ar
 pub returns : goal.returns
 returns c = c.offers_report.ensures
     ∙ sym (of_reports c.args.entry.now c.args.event
-        (omega (arith, c.if-kind-eq-EV_KEY.false, c.if-kind-eq-EV_REL.false, c.if-kind-gt-EV_REL.false)))
+    (omega (arith, c.if-kind-eq-EV_KEY.false, c.if-kind-eq-EV_REL.false, c.if-kind-gt-EV_REL.false)))

@@ -24,42 +24,45 @@ is_slot-requires c = ((call _ _ _ _ (sym c.is_valid_call.ensures ∙ not-false _
 pub returns-then-not-is_slot : goal.returns-then-not-is_slot
 unfolding add_answer first_refusal
 returns-then-not-is_slot c = rw (
-      ← c.is_valid_call.ensures,
-      c.if-not-is_valid_call.false-raw,
-      eq-eqb _ _ c.if-entry-geometry.false,
-      ← c.is_slot.ensures,
-      c.if-not-is_slot.true-raw,
-    )
+  ← c.is_valid_call.ensures,
+  c.if-not-is_valid_call.false-raw,
+  eq-eqb _ _ c.if-entry-geometry.false,
+  ← c.is_slot.ensures,
+  c.if-not-is_slot.true-raw,
+)
 
 pub returns-then-is_taken : goal.returns-then-is_taken
 unfolding add_answer first_refusal
 returns-then-is_taken c = rw (
-      ← c.is_valid_call.ensures,
-      c.if-not-is_valid_call.false-raw,
-      eq-eqb _ _ c.if-entry-geometry.false,
-      ← c.is_slot.ensures,
-      c.if-not-is_slot.false-raw,
-      ← c.is_taken.ensures,
-      c.if-is_taken.true,
-    )
+  ← c.is_valid_call.ensures,
+  c.if-not-is_valid_call.false-raw,
+  eq-eqb _ _ c.if-entry-geometry.false,
+  ← c.is_slot.ensures,
+  c.if-not-is_slot.false-raw,
+  ← c.is_taken.ensures,
+  c.if-is_taken.true,
+)
 
 pub is_present-requires : goal.is_present-requires
-is_present-requires c = omega (arith, c.if-entry-geometry.false,
-    (sizes _ ((call _ _ _ _ (sym c.is_valid_call.ensures ∙ not-false _ c.if-not-is_valid_call.false-raw))).is_allowed).entry_low)
+is_present-requires c = omega (
+  arith,
+  c.if-entry-geometry.false,
+  (sizes _ ((call _ _ _ _ (sym c.is_valid_call.ensures ∙ not-false _ c.if-not-is_valid_call.false-raw))).is_allowed).entry_low,
+)
 
 pub returns-then-not-is_present : goal.returns-then-not-is_present
 unfolding add_answer first_refusal
 returns-then-not-is_present c = rw (
-      ← c.is_valid_call.ensures,
-      c.if-not-is_valid_call.false-raw,
-      eq-eqb _ _ c.if-entry-geometry.false,
-      ← c.is_slot.ensures,
-      c.if-not-is_slot.false-raw,
-      ← c.is_taken.ensures,
-      c.if-is_taken.false,
-      ← c.is_present.ensures,
-      c.if-not-is_present.true-raw,
-    )
+  ← c.is_valid_call.ensures,
+  c.if-not-is_valid_call.false-raw,
+  eq-eqb _ _ c.if-entry-geometry.false,
+  ← c.is_slot.ensures,
+  c.if-not-is_slot.false-raw,
+  ← c.is_taken.ensures,
+  c.if-is_taken.false,
+  ← c.is_present.ensures,
+  c.if-not-is_present.true-raw,
+)
 
 pub ring_of-requires : goal.ring_of-requires
 ring_of-requires c = ((call _ _ _ _ (sym c.is_valid_call.ensures ∙ not-false _ c.if-not-is_valid_call.false-raw))).is_allowed
@@ -71,16 +74,16 @@ room_refusal-requires c = let k = (call _ _ _ _ (sym c.is_valid_call.ensures ∙
 pub returns : goal.returns
 unfolding add_answer first_refusal
 returns c = rw (
-      ← c.is_valid_call.ensures,
-      c.if-not-is_valid_call.false-raw,
-      eq-eqb _ _ c.if-entry-geometry.false,
-      ← c.is_slot.ensures,
-      c.if-not-is_slot.false-raw,
-      ← c.is_taken.ensures,
-      c.if-is_taken.false,
-      ← c.is_present.ensures,
-      c.if-not-is_present.false-raw,
-    )
+  ← c.is_valid_call.ensures,
+  c.if-not-is_valid_call.false-raw,
+  eq-eqb _ _ c.if-entry-geometry.false,
+  ← c.is_slot.ensures,
+  c.if-not-is_slot.false-raw,
+  ← c.is_taken.ensures,
+  c.if-is_taken.false,
+  ← c.is_present.ensures,
+  c.if-not-is_present.false-raw,
+)
     (c.room_refusal.ensures
     ∙ rw (
       needed c.args.device.registers (dev_record dev_conf c.args.slot) c.tells.ensures c.bit_of-needed.ensures.0,

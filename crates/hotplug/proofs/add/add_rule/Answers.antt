@@ -1,5 +1,5 @@
 -- Refused, or what the four changes leave together (added); an accepted add is known by its table.
-use mathlib.Core.Path.{◌≡◌, sym, ◌∙◌}
+use mathlib.Core.Path.{sym, ◌∙◌}
 use Rattle.hotplug.proofs.Laws.Accepted.{add_accepted}
 use Rattle.hotplug.proofs.Laws.Result.{add_refused, added}
 use Rattle.hotplug.proofs.add.add_rule.Goals as goal

@@ -1,5 +1,5 @@
 -- Refused, or what the five changes leave together (removed); an accepted remove is known by its table.
-use mathlib.Core.Path.{◌≡◌, sym, ◌∙◌}
+use mathlib.Core.Path.{sym, ◌∙◌}
 use Rattle.hotplug.proofs.Laws.Accepted.{remove_accepted}
 use Rattle.hotplug.proofs.Laws.Result.{remove_refused, removed}
 use Rattle.hotplug.proofs.remove.remove_rule.Goals as goal

@@ -55,7 +55,7 @@ record_count-requires c = rw ((tells_whole c.gesture_of-gesture.ensures _
 pub returns-then-refusal-ne-DONE : goal.returns-then-refusal-ne-DONE
 returns-then-refusal-ne-DONE c = λ slot.
     put_lost c.args.geometry c.args.device c.args.area.now slot c.args.packet.now
-        (formed (goal.at.returns-then-refusal-ne-DONE c).Else-not-has_form)
+    (formed (goal.at.returns-then-refusal-ne-DONE c).Else-not-has_form)
     (judged (goal.at.returns-then-refusal-ne-DONE c).After-room_refusal-refusal slot) c.if-refusal-ne-DONE.true
     (c.answered-then-refusal-ne-DONE.ensures ∙ ap (outcome_of _) c.lose.ensures)
 
@@ -64,14 +64,17 @@ position_after-requires c = (form_position _ _ (sym c.has_form.ensures ∙ not-f
 
 pub returns : goal.returns
 returns c = λ slot.
-    put-accepted c.args.geometry c.args.device c.args.area.now slot c.args.packet.now (formed (goal.at.returns c).Else-not-has_form) 
+    put-accepted c.args.geometry c.args.device c.args.area.now slot c.args.packet.now (formed (goal.at.returns c).Else-not-has_form)
     (judged (goal.at.returns c).After-room_refusal-refusal slot)
     c.put_group-next.result c.if-refusal-ne-DONE.false
     (rw c.requires.registers_value (rw c.ring_of-ring.ensures at c.put_group-next.ensures))
     (c.answered-2.ensures
     ∙ ap (outcome_of 0)
-    (c.accept.ensures ∙ rw (c.requires.registers_value, c.position_after.ensures,
-        (tells_whole c.gesture_of-gesture.ensures _ (sym c.has_form.ensures ∙ not-false _ c.if-not-has_form.false-raw)))))
+    (c.accept.ensures ∙ rw (
+      c.requires.registers_value,
+      c.position_after.ensures,
+      (tells_whole c.gesture_of-gesture.ensures _ (sym c.has_form.ensures ∙ not-false _ c.if-not-has_form.false-raw)),
+    )))
 
 pub put_group-next-requires-clause-gesture_value : goal.put_group-next-requires-clause-gesture_value
 put_group-next-requires-clause-gesture_value c =

@@ -1,5 +1,4 @@
 -- A left fold over the events: what is left to put, from where the area and the index are now, always gives the whole (Turn).
-use Prim.Native.Nat.{◌-◌}
 use mathlib.Core.Path.{sym, ◌∙◌}
 use Rattle.records.specs.Packet.{events_of}
 use Rattle.records.proofs.Laws.Packet.{counted, event_of_lem, turn_goes_on, turn_ends}

@@ -1,6 +1,5 @@
 -- A left fold over the events: what is left to put, from where the area and the index are now, always gives the whole (Turn).
 use Prim.Native.Nat.{◌-◌}
-use mathlib.Core.Path.{◌∙◌}
 use Rattle.records.specs.Packet.{events_of}
 use Rattle.records.proofs.Laws.Packet.{Turn}
 use Rattle.records.proofs.packet.put_events.Given as goal

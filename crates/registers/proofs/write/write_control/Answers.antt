@@ -18,13 +18,13 @@ pub returns-then-not-may_run-clause-value : goal.returns-then-not-may_run-clause
 returns-then-not-may_run-clause-value c =
     (control_stays_off c.args.geometry c.args.device c.args.area.now c.args.value c.is_set.ensures c.is_set-interrupts.ensures
     (not-false _ c.if-not-is_set.false-raw) (sym c.may_run.ensures ∙ not-true _ c.if-not-may_run.true-raw)
-        c.hold_control-then-not-may_run.ensures).0
+    c.hold_control-then-not-may_run.ensures).0
 
 pub returns-then-not-may_run-clause-area_after : goal.returns-then-not-may_run-clause-area_after
 returns-then-not-may_run-clause-area_after c =
     (control_stays_off c.args.geometry c.args.device c.args.area.now c.args.value c.is_set.ensures c.is_set-interrupts.ensures
     (not-false _ c.if-not-is_set.false-raw) (sym c.may_run.ensures ∙ not-true _ c.if-not-may_run.true-raw)
-        c.hold_control-then-not-may_run.ensures).1
+    c.hold_control-then-not-may_run.ensures).1
 
 pub returns-then-device-clause-value : goal.returns-then-device-clause-value
 returns-then-device-clause-value c =

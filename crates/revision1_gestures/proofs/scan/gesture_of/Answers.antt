@@ -1,5 +1,4 @@
 -- A left fold over the events, while the packet is plain: what is read so far, and with the events that are left, is always the whole
-use Prim.Native.Nat.{◌-◌}
 use mathlib.Core.Path.{sym, ◌∙◌}
 use borrow.Author.Tests.{not-true, not-false}
 use Rattle.records.specs.Packet.{events_of}

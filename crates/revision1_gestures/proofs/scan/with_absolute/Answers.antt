@@ -34,7 +34,7 @@ returns-then-event-eq-ABS_X c = let plain = plain_parts c.args.gesture c.require
       plain.wheel,
     )))
     (rw (c.requires.0, c.if-event-eq-ABS_X.true, c.if-gesture.false, and-true c.args.gesture.known, add-zero c.args.gesture.buttons)
-        (rw c.first-after.ensures))
+    (rw c.first-after.ensures))
 
 pub returns-then-gesture-2 : goal.returns-then-gesture-2
 unfolding gesture_with
@@ -64,7 +64,7 @@ returns-then-event-eq-ABS_Y c = let plain = plain_parts c.args.gesture c.require
       plain.wheel,
     )))
     (rw (c.requires.0, c.if-event-eq-ABS_Y.true, c.if-gesture-2.false, and-true c.args.gesture.known, add-zero c.args.gesture.buttons)
-        (rw c.first-after-then-event-eq-ABS_Y.ensures))
+    (rw c.first-after-then-event-eq-ABS_Y.ensures))
 
 pub returns : goal.returns
 unfolding gesture_with

@@ -32,7 +32,7 @@ returns-then-event-eq-REL_X c = let plain = plain_parts c.args.gesture c.require
       plain.wheel,
     )))
     (rw (c.requires.0, c.if-event-eq-REL_X.true, c.if-gesture.false, and-true c.args.gesture.known, add-zero c.args.gesture.buttons)
-        (rw c.first-after.ensures))
+    (rw c.first-after.ensures))
 
 pub returns-then-gesture-2 : goal.returns-then-gesture-2
 unfolding gesture_with
@@ -60,7 +60,7 @@ returns-then-event-eq-REL_Y c = let plain = plain_parts c.args.gesture c.require
       plain.wheel,
     )))
     (rw (c.requires.0, c.if-event-eq-REL_Y.true, c.if-gesture-2.false, and-true c.args.gesture.known, add-zero c.args.gesture.buttons)
-        (rw c.first-after-then-event-eq-REL_Y.ensures))
+    (rw c.first-after-then-event-eq-REL_Y.ensures))
 
 pub returns-then-gesture-3 : goal.returns-then-gesture-3
 unfolding gesture_with
@@ -91,7 +91,7 @@ returns-then-event-eq-REL_WHEEL c = let plain = plain_parts c.args.gesture c.req
       plain.absolute_y,
     )))
     (rw (c.requires.0, c.if-event-eq-REL_WHEEL.true, c.if-gesture-3.false, and-true c.args.gesture.known, add-zero c.args.gesture.buttons)
-        (rw c.first-after-then-event-eq-REL_WHEEL.ensures))
+    (rw c.first-after-then-event-eq-REL_WHEEL.ensures))
 
 pub returns : goal.returns
 unfolding gesture_with

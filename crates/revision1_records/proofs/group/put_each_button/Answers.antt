@@ -1,5 +1,4 @@
 -- The buttons of the events from the i-th on remain to be put (ButtonsRemain): a turn puts one record or none.
-use Prim.Native.Nat.{◌-◌}
 use mathlib.Core.Path.{sym, ◌∙◌}
 use Rattle.records.specs.Packet.{events_of}
 use Rattle.records.proofs.Laws.Packet.{counted, event_of_lem}

@@ -1,6 +1,5 @@
 -- The buttons of the events from the i-th on remain to be put (ButtonsRemain): a turn puts one record or none.
 use Prim.Native.Nat.{◌-◌}
-use mathlib.Core.Path.{◌∙◌}
 use Rattle.records.specs.Packet.{events_of}
 use Rattle.revision1_records.proofs.Laws.Buttons.{ButtonsRemain}
 use Rattle.revision1_records.proofs.group.put_each_button.Given as goal
