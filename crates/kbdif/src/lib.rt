@@ -27,6 +27,7 @@ pub struct Taken {
     pub in_cons: u32,
 }
 
+#[tactic(auto, unfolding(answers::specs::Refusals::first_refusal))]
 fn put_refusal(page: &[u8], in_prod: u32, contact_limit: u32, event: &[u8]) -> u8
     ensures { result ≡ first_refusal (put_refusals page.now in_prod contact_limit event.now) }
 {
@@ -86,6 +87,7 @@ pub fn put(page: &mut [u8], in_prod: u32, contact_limit: u32, event: &[u8]) -> S
 }
 
 // What a take answers before it looks at its event.
+#[tactic(auto, unfolding(answers::specs::Refusals::first_refusal))]
 fn take_refusal(page: &[u8], in_cons: u32, contact_limit: u32) -> u8
     ensures { result ≡ first_refusal (waiting_refusals page.now in_cons contact_limit) }
 {

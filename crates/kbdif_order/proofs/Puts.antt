@@ -23,7 +23,8 @@ put-fine : (bytes : List ℕ) (contact_limit : ℕ) → may_be_put (decoded byte
     → first_refusal (event_refusals bytes contact_limit) ≡ done
 put-fine bytes contact_limit h = go (first_refusal (event_refusals bytes contact_limit)) refl
   where
-    go : (number : ℕ) → first_refusal (event_refusals bytes contact_limit) ≡ number → first_refusal (event_refusals bytes contact_limit) ≡ done
+    go : (number : ℕ) → first_refusal (event_refusals bytes contact_limit) ≡ number
+        → first_refusal (event_refusals bytes contact_limit) ≡ done
     go number e = elim (ℕ_discrete number done) [
       | yes z ↦ e ∙ z
       | no n ↦ absurd (false≢true (rw (e, ne_eqb number done n) at h))

@@ -7,7 +7,7 @@ ghost use Rattle.kbdif_page.specs.Page.{page_length};
 
 use kbdif_events::{EVENT_LENGTH, RingEvent};
 use kbdif_page::{IN_CONS, PAGE_LENGTH};
-use libc::STDOUT_FILENO;
+use std::io;
 
 // Both indices at first: the fourth event then goes to place 0.
 const START: u32 = 48;
@@ -17,54 +17,56 @@ const INDICES_LENGTH: usize = 8;
 
 const CONTACT_LIMIT: u32 = 32;
 
-fn print(text: &[u8]) {
-    io::write_all(STDOUT_FILENO, text);
+fn print(rt: &impl Print, text: &[u8]) -> io::Result<()> {
+    rt.write_all(text)
 }
 
-fn print_byte(byte: u8) {
-    print(b" ");
-    io::print_decimal(STDOUT_FILENO, byte as u64);
+fn print_byte(rt: &impl Print, byte: u8) -> io::Result<()> {
+    print(rt, b" ")?;
+    print!(rt; "{byte}")
 }
 
 // A line: where the bytes begin in the page, and the bytes.
-fn print_bytes(begin: usize, bytes: &[u8]) {
-    io::print_decimal(STDOUT_FILENO, begin as u64);
-    print(b":");
+fn print_bytes(rt: &impl Print, begin: usize, bytes: &[u8]) -> io::Result<()> {
+    print!(rt; "{begin}")?;
+    print(rt, b":")?;
     let mut i: usize = 0;
     while i < bytes.len() {
-        print_byte(bytes[i]);
+        print_byte(rt, bytes[i])?;
         i += 1;
     }
-    print(b"\n");
+    print(rt, b"\n")
 }
 
 // Prints the indices and each event. An event is found by its type, which isn't 0, so one in a wrong place is seen too.
-fn print_page(page: &[u8])
+fn print_page(rt: &impl Print, page: &[u8]) -> io::Result<()>
     requires { length page.now ≡ page_length }
 {
-    print_bytes(0, &page[0..INDICES_LENGTH]);
+    print_bytes(rt, 0, &page[0..INDICES_LENGTH])?;
     let mut at = INDICES_LENGTH;
     while at + EVENT_LENGTH <= page.len() {
         if page[at] == 0 {
             at += 1;
         } else {
-            print_bytes(at, &page[at..at + EVENT_LENGTH]);
+            print_bytes(rt, at, &page[at..at + EVENT_LENGTH])?;
             at += EVENT_LENGTH;
         }
     }
+    Ok(())
 }
 
 // Puts an event, prints the answer, and gives the next in_prod.
-fn put_event(page: &mut [u8], in_prod: u32, event: RingEvent) -> u32 {
+fn put_event(rt: &impl Print, page: &mut [u8], in_prod: u32, event: RingEvent) -> io::Result<u32> {
     let mut bytes = [0; EVENT_LENGTH];
     kbdif_events::encode(&mut bytes, event);
     let stored = kbdif::put(page, in_prod, CONTACT_LIMIT, &bytes);
-    print_byte(stored.answer);
-    stored.in_prod
+    print_byte(rt, stored.answer)?;
+    Ok(stored.in_prod)
 }
 
-fn put_pointer_and_key(page: &mut [u8], in_prod: u32) -> u32 {
+fn put_pointer_and_key(rt: &impl Print, page: &mut [u8], in_prod: u32) -> io::Result<u32> {
     let in_prod = put_event(
+        rt,
         page,
         in_prod,
         RingEvent::Motion {
@@ -72,16 +74,18 @@ fn put_pointer_and_key(page: &mut [u8], in_prod: u32) -> u32 {
             y: -305419896,
             z: -2147483648,
         },
-    );
+    )?;
     let in_prod = put_event(
+        rt,
         page,
         in_prod,
         RingEvent::Key {
             pressed: true,
             keycode: 3735928559,
         },
-    );
+    )?;
     put_event(
+        rt,
         page,
         in_prod,
         RingEvent::Pos {
@@ -92,8 +96,9 @@ fn put_pointer_and_key(page: &mut [u8], in_prod: u32) -> u32 {
     )
 }
 
-fn put_touches(page: &mut [u8], in_prod: u32) -> u32 {
+fn put_touches(rt: &impl Print, page: &mut [u8], in_prod: u32) -> io::Result<u32> {
     let in_prod = put_event(
+        rt,
         page,
         in_prod,
         RingEvent::TouchDown {
@@ -101,9 +106,10 @@ fn put_touches(page: &mut [u8], in_prod: u32) -> u32 {
             x: -32769,
             y: 2147483647,
         },
-    );
-    let in_prod = put_event(page, in_prod, RingEvent::TouchUp { contact: 30 });
+    )?;
+    let in_prod = put_event(rt, page, in_prod, RingEvent::TouchUp { contact: 30 })?;
     let in_prod = put_event(
+        rt,
         page,
         in_prod,
         RingEvent::TouchMotion {
@@ -111,12 +117,13 @@ fn put_touches(page: &mut [u8], in_prod: u32) -> u32 {
             x: 287454020,
             y: -65536,
         },
-    );
-    put_event(page, in_prod, RingEvent::TouchSyn { contact: 1 })
+    )?;
+    put_event(rt, page, in_prod, RingEvent::TouchSyn { contact: 1 })
 }
 
-fn put_shape_and_orientation(page: &mut [u8], in_prod: u32) -> u32 {
+fn put_shape_and_orientation(rt: &impl Print, page: &mut [u8], in_prod: u32) -> io::Result<u32> {
     let in_prod = put_event(
+        rt,
         page,
         in_prod,
         RingEvent::TouchShape {
@@ -124,8 +131,9 @@ fn put_shape_and_orientation(page: &mut [u8], in_prod: u32) -> u32 {
             major: 4294967295,
             minor: 2147483648,
         },
-    );
+    )?;
     put_event(
+        rt,
         page,
         in_prod,
         RingEvent::TouchOrient {
@@ -135,13 +143,13 @@ fn put_shape_and_orientation(page: &mut [u8], in_prod: u32) -> u32 {
     )
 }
 
-fn main() {
+fn main(rt: HostRuntime) -> io::Result<()> {
     let mut page = [0; PAGE_LENGTH];
     words::write_u32(&mut page, IN_CONS, START);
-    print(b"answers:");
-    let in_prod = put_pointer_and_key(&mut page, START);
-    let in_prod = put_touches(&mut page, in_prod);
-    put_shape_and_orientation(&mut page, in_prod);
-    print(b"\n");
-    print_page(&page);
+    print(&rt, b"answers:")?;
+    let in_prod = put_pointer_and_key(&rt, &mut page, START)?;
+    let in_prod = put_touches(&rt, &mut page, in_prod)?;
+    put_shape_and_orientation(&rt, &mut page, in_prod)?;
+    print(&rt, b"\n")?;
+    print_page(&rt, &page)
 }

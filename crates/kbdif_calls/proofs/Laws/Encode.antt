@@ -22,7 +22,8 @@ module _ (out : List ℕ) (numbers : RingNumbers) where
   unfolding encode_answer encoded_bytes first_refusal
   wrong_length n = (rw (ne_eqb (length out) event_length n), rw (ne_eqb (length out) event_length n))
 
-  module _ {event : RingEvent} {sure : Bool} (size : length out ≡ event_length) (e : event ≡ event_of numbers) (k : sure ≡ known event) where
+  module _ {event : RingEvent} {sure : Bool} (size : length out ≡ event_length) (e : event ≡ event_of numbers)
+      (k : sure ≡ known event) where
     known_is : known (event_of numbers) ≡ sure
     known_is = sym (k ∙ ap known e)
 
