@@ -73,6 +73,8 @@ fn write_line(out: &mut [u8], at: usize, word: &[u8], number: u32) -> usize
     write_number(out, end, number, b"\n")
 }
 
+// Length, read pointer, write pointer: three rows in this order, the last two about the very words that were read from the page.
+#[tactic(auto, unfolding(answers::specs::Refusals::first_refusal))]
 fn refusal(input_length: usize, area: &[u8]) -> u8
     requires { length area.now ≡ 4096 }
     ensures { result ≡ first_refusal (refusals input_length area.now) }

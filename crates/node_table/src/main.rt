@@ -2,66 +2,67 @@
 // line closes the settings and begins new ones. A line with no equals sign is read as a number.
 #![tactic(auto)]
 
-ghost use Rattle.std.specs.Prelude.{◌≤◌, length};
+ghost use Rattle.std.specs.Prelude.{◌≤◌, length, IfOk};
 
 use decimals::Number;
-use libc::{STDIN_FILENO, STDOUT_FILENO};
 use nodes::Settings;
+use std::io::{self, Read};
 
-fn print(text: &[u8]) {
-    io::write_all(STDOUT_FILENO, text);
+fn print(rt: &impl Print, text: &[u8]) -> io::Result<()> {
+    rt.write_all(text)
 }
 
-fn print_number(label: &[u8], value: u32) {
-    print(label);
-    io::print_decimal(STDOUT_FILENO, value as u64);
+fn print_number(rt: &impl Print, label: &[u8], value: u32) -> io::Result<()> {
+    print(rt, label)?;
+    print!(rt; "{value}")
 }
 
-fn print_flag(label: &[u8], value: bool) {
-    print(label);
+fn print_flag(rt: &impl Print, label: &[u8], value: bool) -> io::Result<()> {
+    print(rt, label)?;
     if value {
-        print(b"1");
-        return;
+        return print(rt, b"1");
     }
-    print(b"0");
+    print(rt, b"0")
 }
 
-fn print_node(settings: Settings, name: &[u8], value: &[u8]) -> Settings {
+fn print_node(
+    rt: &impl Print,
+    settings: Settings,
+    name: &[u8],
+    value: &[u8],
+) -> io::Result<Settings> {
     let read = nodes::read_node(settings, name, value);
-    print(name);
-    print(b"=");
-    print(value);
-    print_number(b": ", read.answer as u32);
-    print(b"\n");
-    read.settings
+    print(rt, name)?;
+    print(rt, b"=")?;
+    print(rt, value)?;
+    print_number(rt, b": ", read.answer as u32)?;
+    print(rt, b"\n")?;
+    Ok(read.settings)
 }
 
-fn print_closed(settings: Settings) {
+fn print_closed(rt: &impl Print, settings: Settings) -> io::Result<()> {
     let closed = closing::close(settings);
-    print_number(b"closed: ", closed.answer as u32);
-    print_flag(b", absolute ", closed.absolute);
-    print_flag(b", multi-touch ", closed.multi_touch);
-    print_flag(b", raw ", closed.raw);
-    print_flag(b", disable keyboard ", closed.disable_keyboard);
-    print_flag(b", disable pointer ", closed.disable_pointer);
-    print_number(b", area ", closed.width);
-    print_number(b" x ", closed.height);
-    print_number(b", contacts ", closed.contacts);
-    print_number(b", touch area ", closed.touch_width);
-    print_number(b" x ", closed.touch_height);
-    print(b"\n\n");
+    print_number(rt, b"closed: ", closed.answer as u32)?;
+    print_flag(rt, b", absolute ", closed.absolute)?;
+    print_flag(rt, b", multi-touch ", closed.multi_touch)?;
+    print_flag(rt, b", raw ", closed.raw)?;
+    print_flag(rt, b", disable keyboard ", closed.disable_keyboard)?;
+    print_flag(rt, b", disable pointer ", closed.disable_pointer)?;
+    print_number(rt, b", area ", closed.width)?;
+    print_number(rt, b" x ", closed.height)?;
+    print_number(rt, b", contacts ", closed.contacts)?;
+    print_number(rt, b", touch area ", closed.touch_width)?;
+    print_number(rt, b" x ", closed.touch_height)?;
+    print(rt, b"\n\n")
 }
 
-fn print_read(text: &[u8]) {
-    print(text);
+fn print_read(rt: &impl Print, text: &[u8]) -> io::Result<()> {
+    print(rt, text)?;
     match decimals::read_number(text) {
-        Number::Value(value) => print_number(b" says ", value),
-        Number::Bad(place) => {
-            print(b" is spoiled at ");
-            io::print_decimal(STDOUT_FILENO, place as u64);
-        }
+        Number::Value(value) => print_number(rt, b" says ", value)?,
+        Number::Bad(place) => print!(rt; " is spoiled at {place}")?,
     }
-    print(b"\n");
+    print(rt, b"\n")
 }
 
 // Where the byte first stands from a place on, or the text's end.
@@ -79,31 +80,48 @@ fn find(text: &[u8], from: usize, byte: u8) -> usize
     at
 }
 
-fn line(settings: Settings, text: &[u8]) -> Settings {
+fn line(rt: &impl Print, settings: Settings, text: &[u8]) -> io::Result<Settings> {
     if text.len() == 0 {
-        print_closed(settings);
-        return nodes::fresh();
+        print_closed(rt, settings)?;
+        return Ok(nodes::fresh());
     }
     let equals = find(text, 0, b'=');
     if equals == text.len() {
-        print_read(text);
-        return settings;
+        print_read(rt, text)?;
+        return Ok(settings);
     }
-    print_node(settings, &text[0..equals], &text[equals + 1..])
+    print_node(rt, settings, &text[0..equals], &text[equals + 1..])
 }
 
-fn lines(table: &[u8]) {
+fn lines(rt: &impl Print, table: &[u8]) -> io::Result<()> {
     let mut settings = nodes::fresh();
     let mut at: usize = 0;
     while at < table.len() {
         let end = find(table, at, b'\n');
-        settings = line(settings, &table[at..end]);
+        settings = line(rt, settings, &table[at..end])?;
         at = end + 1;
     }
+    Ok(())
 }
 
-fn main() {
-    let mut buffer = io::buffer();
-    let count = io::read_full(STDIN_FILENO, &mut buffer);
-    lines(&buffer[..count]);
+// Reads until the lent bytes are full or the input ends, and answers how many were read.
+fn read_full<R: Read>(input: &mut R, bytes: &mut [u8]) -> io::Result<usize>
+    ensures { IfOk result (λ count. count ≤ length bytes.new) }
+{
+    let mut done: usize = 0;
+    while done < bytes.len() {
+        let count = input.read(&mut bytes[done..])?;
+        if count == 0 {
+            break;
+        }
+        done += count;
+    }
+    Ok(done)
+}
+
+// Of a table longer than the buffer the beginning is read.
+fn main(rt: HostRuntime) -> io::Result<()> {
+    let mut buffer = [0; 4096];
+    let count = read_full(&mut rt.stdin(), &mut buffer)?;
+    lines(&rt, &buffer[..count])
 }

@@ -60,8 +60,11 @@ lines_first ring area index more =
 -- ---- the loop that puts the lines of `count` records from `first` on: `left` of them remain, from `index` on
 
 pub record Turn (ring : Ring) (area : List ℕ) (first count : ℕ) (start : List ℕ) (at : ℕ) (out : List ℕ) (end index left : ℕ) : Type 0 where
-  pub remains : Remains start at (record_lines (records_from ring area first count)) out end (record_lines (records_from ring area index left))
-  pub ends : end + length (record_lines (records_from ring area index left)) ≡ at + length (record_lines (records_from ring area first count))
+  pub remains :
+      Remains start at (record_lines (records_from ring area first count)) out end (record_lines (records_from ring area index left))
+  pub ends :
+      end + length (record_lines (records_from ring area index left))
+      ≡ at + length (record_lines (records_from ring area first count))
   pub inside : index < ring.length
   pub room : end + left * 33 ≤ length out
 
@@ -70,7 +73,8 @@ module _ (ring : Ring) (area : List ℕ) (first count : ℕ) (start : List ℕ) 
   turn_begins h k = record { remains = begin start at _; ends = refl; inside = h; room = k }
 
   pub turn_goes_on : {out : List ℕ} {end index left : ℕ} → Turn ring area first count start at out end index left → 0 < left
-      → {event : Event} {after : List ℕ} {next place : ℕ} → event ≡ record_at ring area index → Written out end (record_line event) after next
+      → {event : Event} {after : List ℕ} {next place : ℕ} → event ≡ record_at ring area index
+      → Written out end (record_line event) after next
       → place ≡ next_index ring index
       → Turn ring area first count start at after next place (left - 1)
   turn_goes_on {out} {end} {index} {left} turn h {event} {after} {next} {place} read wrote moved =

@@ -53,15 +53,16 @@ module _ (input_length : ℕ) (area : List ℕ) {answer : ℕ} (judged : answer 
         let p = possible_pointers none in
         omega (arith, unread_below (ring_of one_page) read write (omega arith) (omega arith))
 
-    pub records_end : {before after : List ℕ} {at end : ℕ} → Written before at (record_lines (records_from (ring_of one_page) area read count))
-        after end → end ≤ at + 510 * 33
+    pub records_end : {before after : List ℕ} {at end : ℕ}
+        → Written before at (record_lines (records_from (ring_of one_page) area read count)) after end → end ≤ at + 510 * 33
     records_end wrote =
         let lines : List Event = records_from (ring_of one_page) area read count in
         omega (arith, few_records, wrote.ends, lines_length lines, records_length (ring_of one_page) area read count)
 
   module _ {before titled : List ℕ} {at : ℕ} (size : length before ≡ 20480)
       (title : Written before 0 (ascii "type code value\n") titled at) where
-    pub refused_listing : {after : List ℕ} {end : ℕ} → (answer ≡ 0 → ⊥) → Written titled at (number_line (ascii "refused ") answer) after end
+    pub refused_listing : {after : List ℕ} {end : ℕ} → (answer ≡ 0 → ⊥)
+        → Written titled at (number_line (ascii "refused ") answer) after end
         → Written before 0 (listing input_length area) after end × (end ≤ length after)
     refused_listing n line =
         let whole = written_next title (omega arith) line in
@@ -71,10 +72,10 @@ module _ (input_length : ℕ) (area : List ℕ) {answer : ℕ} (judged : answer 
               (arith, whole.ends, title.ends, written-length whole (omega (arith, whole.ends, title.ends))),
         )
 
-    pub whole_listing : {read write count : ℕ} {lines after : List ℕ} {line_at_lem end : ℕ} → answer ≡ 0
+    pub whole_listing : {read write count : ℕ} {lines after : List ℕ} {line_at end : ℕ} → answer ≡ 0
         → read ≡ read_pointer area → write ≡ write_pointer area → count ≡ unread_count (ring_of one_page) read write
-        → Written titled at (record_lines (records_from (ring_of one_page) area read count)) lines line_at_lem
-        → Written lines line_at_lem (number_line (ascii "end ") count) after end
+        → Written titled at (record_lines (records_from (ring_of one_page) area read count)) lines line_at
+        → Written lines line_at (number_line (ascii "end ") count) after end
         → Written before 0 (listing input_length area) after end × (end ≤ length after)
     whole_listing {read} {write} {count} none r w counted records last =
         let body = written_next records
