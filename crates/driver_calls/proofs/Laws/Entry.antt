@@ -27,7 +27,8 @@ module _ (geometry : Geometry) (page : List ℕ) (slot : ℕ) (out : List ℕ) w
     found-length : lookup_answer geometry page slot ≡ 0 → length (entry_at geometry page slot) ≡ 68
     found-length found =
         let inside = found_inside geometry page slot found in
-        length-take-le 68 (drop (entry_place geometry slot) page) (rw (length-drop (entry_place geometry slot) page) (omega (arith, inside)))
+        length-take-le 68 (drop (entry_place geometry slot) page)
+        (rw (length-drop (entry_place geometry slot) page) (omega (arith, inside)))
 
     pub part_fits : {part : List ℕ} → part ≡ lookup_part geometry page slot → 0 + length part ≤ length out
     part_fits e = elim (ℕ_discrete (lookup_answer geometry page slot) 0) [
