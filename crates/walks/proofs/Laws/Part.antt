@@ -12,9 +12,9 @@ use types.Kit.{Item, ‵, raw, ◌⊛◌, mean, ◌$◌, ◌∵◌, !, qed, move
 use types.Part.{Part}
 
 module _ {M : Type 1} {𝓤 : Ura M} {𝓛 : Logic 𝓤} {K : Type 0} where
-  -- the same cell, by the named type
   open 𝓛 use {H}
 
+  -- the same cell, by the named type
   pub named : K → {i : Item 𝓤} {q : Share} {τ : Ty} {b o : ℕ} {v : Val} {back : Val → Item 𝓤}
       → Part K 𝓛 i q (unnamed τ) b o v back → Part K 𝓛 i q τ b o v back
   named t {i} {q} {τ} {b} {o} {v} {back} p = record {
