@@ -12,7 +12,8 @@ use Rattle.answers.specs.Answers.{invalid, malformed, bad_index, nothing_to_read
 use Rattle.answers.specs.Refusals.{first_refusal}
 use Rattle.answers.proofs.Laws.{passed, refused}
 use Rattle.kbdif_decode.specs.Decode.{Decoded, Event, Refused, event_at, event_refusals, answered}
-use Rattle.kbdif_page.specs.Page.{page_length, ring_length, in_prod_of, with_in_cons, next_index, distance, event_bytes_at, is_contact_limit}
+use Rattle.kbdif_page.specs.Page.{page_length, ring_length, in_prod_of, with_in_cons, next_index, distance, event_bytes_at}
+use Rattle.kbdif_page.specs.Page.{is_contact_limit}
 use Rattle.kbdif_page.proofs.Laws.Page.{cons_length, cons_moved, cons_prod, cons_event}
 use Rattle.kbdif.specs.Take.{take_number, found_by, take_answered}
 use Rattle.kbdif_order.specs.Order.{Ring, taking, after, took, is_nothing_to_read, entry_of, is_sound}

@@ -26,7 +26,7 @@ use Rattle.cases.specs.Cases.{cases, cases_in_revision1, AllRight, Cases}
 in_revision_2 : AllRight cases
 unfolding first_refusal overwrite bit is_record_size is_entry_size allowed event_bytes event_at events_from put_record put_records
     index_after offers_code is_offered revision_for client_rev_rule current_rule is_device is_valid_pages is_valid_call all_offered
-        packet_answer packet_of
+    packet_answer packet_of
     access_answer place_in place_of taken_from switch_on control_of write_of
 in_revision_2 = (
   refl,
@@ -51,9 +51,9 @@ in_revision_2 = (
 in_revision_1 : AllRight cases_in_revision1
 unfolding first_refusal overwrite bit is_record_size is_entry_size allowed event_bytes event_at events_from put_record put_records
     index_after is_in_range scaled all_known values_of last_or button_count gesture_of has_form button_records parts_of offers_code
-        is_offered
+    is_offered
     revision_for client_rev_rule current_rule is_device is_valid_pages is_valid_call all_offered packet_answer packet_of access_answer
-        place_in
+    place_in
     place_of taken_from switch_on control_of write_of
 in_revision_1 = (
   refl,

@@ -163,7 +163,7 @@ module _ (geometry : Geometry) where
   set_slot new {collector} low h =
       let same = moved_held new collector.driver in
       lead (dev_record dev_set new) collector kind.DevSet (rw (lt-ltb new (slot_count geometry) low)) (omega (arith, same)) refl
-          (move new h)
+      (move new h)
 
   pub conf : (new : ℕ) {collector : Collector} {slot : ℕ} → new < slot_count geometry → Holding slot [] collector
       → Leads geometry (dev_record dev_conf new) collector [] slot []

@@ -45,7 +45,7 @@ sending-belongs : AllBelong small start sending
 unfolding overwrite first_refusal is_record_size is_entry_size allowed bit event_bytes event_at events_from put_record put_records
     index_after
     button_flag is_in_range scaled all_known values_of last_or button_count gesture_of has_form button_records parts_of offers_code
-        is_offered
+    is_offered
     revision_for client_rev_rule current_rule is_device is_valid_pages is_valid_call all_offered packet_answer packet_of add_answer add_of
     access_answer place_in place_of taken_from switch_on control_of acceleration_of write_of call
 sending-belongs = (
@@ -84,11 +84,11 @@ pub in_revision_1 : InRevision1
 unfolding overwrite first_refusal is_record_size is_entry_size allowed bit event_bytes event_at events_from put_record put_records
     index_after
     button_flag is_in_range scaled all_known values_of last_or button_count gesture_of has_form button_records parts_of take_of groups_ended
-        begun_after
+    begun_after
     offers_code is_offered is_valid_area reading_refusal oldest_of revision_for client_rev_rule current_rule is_device is_valid_pages
-        is_valid_call
+    is_valid_call
     all_offered packet_answer packet_of add_answer add_of access_answer place_in place_of taken_from switch_on control_of acceleration_of
-        write_of call
+    write_of call
 in_revision_1 = record {
   is_allowed = refl;
   is_off = refl;

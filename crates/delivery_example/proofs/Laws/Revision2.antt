@@ -61,7 +61,7 @@ after_reads = after small after_steps (write 0x1000 4 36 ∷ [])
 accesses_belong : AllBelong small start accesses
 unfolding overwrite first_refusal is_record_size is_entry_size allowed bit event_bytes event_at put_record put_records index_after
     revision_for client_rev_rule current_rule is_device is_valid_pages is_valid_call add_answer add_of access_answer place_in place_of
-        taken_from switch_on
+    taken_from switch_on
     control_of client_rev_of write_of read_of call
 accesses_belong = (tt, (record { on = refl; same_read_pointer = refl }, (record { on = refl; same_read_pointer = refl }, tt)))
 
@@ -70,9 +70,9 @@ unfolding overwrite first_refusal is_record_size is_entry_size allowed bit event
     index_after
     offers_code is_offered dev_kind kind_of spoiled joined reported without_slot collected is_valid_area reading_refusal oldest_of
     is_driver is_valid_step step_of revision_for client_rev_rule current_rule is_device is_valid_pages is_valid_call all_offered
-        packet_answer packet_of
+    packet_answer packet_of
     add_answer add_of remove_answer remove_of access_answer place_in place_of taken_from switch_on control_of client_rev_of write_of read_of
-        call
+    call
 pointer_belongs = (record { on = refl; same_read_pointer = refl }, tt)
 
 reads_belong : AllBelong small after_refusals reads
@@ -95,9 +95,9 @@ unfolding overwrite first_refusal is_record_size is_entry_size allowed bit event
     index_after
     offers_code is_offered dev_kind kind_of spoiled joined reported without_slot collected is_valid_area reading_refusal oldest_of
     is_driver is_valid_step step_of revision_for client_rev_rule current_rule is_device is_valid_pages is_valid_call all_offered
-        packet_answer packet_of
+    packet_answer packet_of
     add_answer add_of remove_answer remove_of access_answer place_in place_of taken_from switch_on control_of client_rev_of write_of read_of
-        call
+    call
 in_revision_2 =
     let fresh : IsFresh before.collector = record { is_fresh = refl; size = refl } in
     record {

@@ -1,5 +1,6 @@
 -- Laws of the ring's page: where events stand, and what a put and a take leave of it.
-use Rattle.std.proofs.Common.{◌≡◌, ℕ, ◌+◌, ◌-◌, ◌^◌, ◌<◌, ◌≤◌, true, leb, List, length, get_or, sym, ◌∙◌, subst, arith, length-drop, length-take, get_or-drop, get_or-take, ext_get_or, leb-true}
+use Rattle.std.proofs.Common.{◌≡◌, ℕ, ◌+◌, ◌-◌, ◌^◌, ◌<◌, ◌≤◌, true, leb, List, length, get_or, sym, ◌∙◌, subst, arith, length-drop}
+use Rattle.std.proofs.Common.{length-take, get_or-drop, get_or-take, ext_get_or, leb-true}
 use mathlib.Core.Bool.{and-eq-true_iff}
 use native.Mathlib.Decide.{dec_lt}
 use Rattle.copying.specs.Copying.{overwrite, Agree}
