@@ -1,14 +1,21 @@
 -- Laws of an event's bytes: those of single values, those of its words, and what storing the words leaves.
 use Prim.Native.Nat.{ℕ, ◌+◌, ◌*◌, ◌/◌, ◌%◌, ◌≤◌, ◌<◌, ◌^◌}
-use mathlib.Core.Path.{◌≡◌, ap, ◌∙◌}
+use mathlib.Core.Path.{◌≡◌, refl, ap, ◌∙◌}
+use mathlib.Core.Bool.{Bool, true, false, cond}
 use mathlib.Core.List.{List, [], ◌∷◌, ◌++◌}
 use native.Mathlib.Omega.{arith}
 use lib.ListN.{length}
+use mir.Val.{bool_byte}
 use Rattle.copying.specs.Copying.{overwrite}
 use Rattle.copying.proofs.Laws.Overwrite.{overwrite_next, overwrite_whole}
 use Rattle.words.specs.Words.{u32_bytes, u64_bytes, set_u64}
 use Rattle.kbdif_events.specs.Event.{event_length, zeros, padded, words_bytes}
 use Rattle.kbdif_events.specs.declared.EventWords.{EventWords}
+
+-- a bool as a byte
+pub bool_byte_lem : (flag : Bool) → bool_byte flag ≡ cond flag 1 0
+bool_byte_lem true = refl
+bool_byte_lem false = refl
 
 -- the upper half of a word that holds 16 bits
 pub upper_bytes : (v : ℕ) → v < 2 ^ 16 → (v / 65536 % 256 ≡ 0) × (v / 16777216 % 256 ≡ 0)

@@ -1,12 +1,14 @@
 -- Laws of a put, by its answer.
-use Prim.Native.Nat.{ℕ, ◌+◌, ◌-◌, ◌<◌}
+use Prim.Native.Nat.{ℕ, ◌+◌, ◌-◌, ◌≤◌, ◌<◌}
 use mathlib.Core.Path.{◌≡◌, ap, ◌∙◌}
-use mathlib.Core.Bool.{true, not}
-use mathlib.Core.List.{List, ◌++◌}
+use mathlib.Core.Logic.{◌≢◌}
+use mathlib.Core.Bool.{Bool, true, false, not}
+use mathlib.Core.List.{List, [], ◌∷◌, ◌++◌}
 use native.Mathlib.Omega.{arith}
+use native.Mathlib.Decide.{dec_lt}
 use lib.Dec.{eqb, ltb}
 use lib.ListN.{length, take, drop}
-use borrow.Author.Tests.{ne_eqb, eqb-true, eqb-false, ltb-false, not-false}
+use borrow.Author.Tests.{ne_eqb, lt-ltb, le-ltb, eqb-true, eqb-false, ltb-false, not-false}
 use Rattle.answers.specs.Answers.{done, invalid, malformed, bad_index, no_room}
 use Rattle.answers.specs.Refusals.{first_refusal}
 use Rattle.answers.proofs.Laws.{none_holds}
@@ -15,6 +17,27 @@ use Rattle.kbdif_events.specs.Event.{event_length}
 use Rattle.kbdif_decode.specs.Decode.{decoded, may_be_put}
 use Rattle.kbdif_page.specs.Page.{page_length, ring_length, in_cons_of, with_in_prod, next_index, distance, event_place, is_contact_limit}
 use Rattle.kbdif.specs.Put.{put_refusals, put_answered, put_of}
+
+-- ---- the last tests of a put, of the distance alone
+
+abbrev pub room_refusals : ℕ → List (Bool × ℕ)
+room_refusals used = (ltb ring_length used, bad_index) ∷ (eqb used ring_length, no_room) ∷ []
+
+module _ {used number : ℕ} (is : number ≡ used) where
+  pub room_left : number < ring_length → first_refusal (room_refusals used) ≡ done
+  unfolding first_refusal
+  room_left few = rw (le-ltb ring_length used (omega arith), ne_eqb used ring_length (λ e. omega arith))
+
+  pub full : number ≡ ring_length → first_refusal (room_refusals used) ≡ no_room
+  unfolding first_refusal
+  full e = rw (← is, e)
+
+  pub too_far : ring_length ≤ number → number ≢ ring_length → first_refusal (room_refusals used) ≡ bad_index
+  unfolding first_refusal
+  too_far many other = elim (dec_lt ring_length used) [
+    | yes h ↦ rw (lt-ltb ring_length used h)
+    | no h ↦ absurd (other (omega arith))
+  ]
 
 module _ (page : List ℕ) (in_prod contact_limit : ℕ) (event : List ℕ) where
   -- what is known of a put that isn't refused

@@ -16,7 +16,9 @@ use Rattle.kbdif_events.specs.Types.{xenkbd_type_motion, xenkbd_type_key, xenkbd
 use Rattle.kbdif_events.specs.Types.{xenkbd_mt_ev_up, xenkbd_mt_ev_motion, xenkbd_mt_ev_syn, xenkbd_mt_ev_shape, xenkbd_mt_ev_orient}
 use Rattle.kbdif_events.specs.Event.{event_length, between}
 use Rattle.kbdif_decode.specs.Reserved.{u64_at, all_zero, zero_outside}
-use Rattle.kbdif_decode.specs.Decode.{Decoded, lookup, event_at, decoded}
+use Rattle.kbdif_events.specs.declared.RingEvent.TheVariants.{Motion, Key, Pos, TouchDown, TouchUp, TouchMotion}
+use Rattle.kbdif_events.specs.declared.RingEvent.TheVariants.{TouchSyn, TouchShape, TouchOrient, Unknown}
+use Rattle.kbdif_decode.specs.Decode.{Decoded, Event, Refused, lookup, event_at, decoded, may_be_put}
 use Rattle.kbdif_decode.specs.Form.{event_form, form_of}
 use Rattle.kbdif_decode.specs.declared.Form.{Form}
 use Rattle.kbdif_decode.specs.declared.Form.TheVariants.{Malformed, UnknownType, Pointer, KeyPress, Place, Contact, Axes}
@@ -33,6 +35,30 @@ judged_form : (fine : Bool) (event : RingEvent) {found : Decoded} → found ≡ 
 unfolding judged told
 judged_form true event e = ap form_of e
 judged_form false event e = ap form_of e
+
+-- what may be put, by its form
+abbrev pub put_form : Form → Bool
+put_form Malformed = false
+put_form UnknownType = false
+put_form Pointer = true
+put_form KeyPress = true
+put_form Place = true
+put_form Contact = true
+put_form Axes = true
+put_form Orientation = true
+
+pub put_told : (found : Decoded) {form : Form} → form ≡ form_of found → put_form form ≡ may_be_put found
+put_told (Refused number) e = ap put_form e
+put_told (Event (Motion x y z)) e = ap put_form e
+put_told (Event (Key pressed keycode)) e = ap put_form e
+put_told (Event (Pos x y wheel)) e = ap put_form e
+put_told (Event (TouchDown contact x y)) e = ap put_form e
+put_told (Event (TouchUp contact)) e = ap put_form e
+put_told (Event (TouchMotion contact x y)) e = ap put_form e
+put_told (Event (TouchSyn contact)) e = ap put_form e
+put_told (Event (TouchShape contact major minor)) e = ap put_form e
+put_told (Event (TouchOrient contact orientation)) e = ap put_form e
+put_told (Event Unknown) e = ap put_form e
 
 -- where the first or the last of three tests fails, so do all
 spoiled : (first middle last : Bool) (form : Form) → (first && last) ≡ false → told (first && (middle && last)) form ≡ Malformed
