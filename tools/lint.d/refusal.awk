@@ -16,7 +16,7 @@ function why_of_error(line,    place, message) {
     if (place !~ /^proofs\//) return "the edited statement or code is itself wrong (" place ")"
     if (!sub(/^: `[^`]*`: /, "", message)) return "the proof can't be read"
     if (message ~ /^`[^`]*` is not in scope/) return "a name isn't in scope"
-    if (message ~ /^(record `[^`]*` has no field|`[^`]*` is not a field of|`\.[^`]*` projects from)/)
+    if (message ~ /^(record `|`[^`]*` is not a field of|`\.[^`]*` projects from)/)
         return "a field is gone that the proof uses"
     if (message ~ /^expected type `goal\.[^`]*`, but this has type `goal\./) return "the goals of the proof are others"
     return ""

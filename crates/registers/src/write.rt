@@ -29,6 +29,7 @@ fn hold_control(device: Device, on: bool, interrupts: bool) -> Outcome
     done(after)
 }
 
+#[tactic(auto, unfolding(crate::specs::Write::control_of))]
 fn write_control(geometry: Geometry, device: Device, area: &mut [u8], value: u32) -> Outcome
     requires { (allowed geometry ≡ true) × (Holds (length area.old) (ring_of geometry)) }
     ensures value { result ≡ (control_of geometry device area.old value).outcome }
@@ -78,6 +79,7 @@ fn write_client_rev(device: Device, value: u32) -> Outcome
     done(after)
 }
 
+#[tactic(auto, unfolding(crate::specs::Write::acceleration_of))]
 fn write_acceleration(device: Device, value: u32) -> Outcome
     ensures { result ≡ outcome_of 0 (acceleration_of device value) }
 {
