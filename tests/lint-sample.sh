@@ -106,7 +106,8 @@ pub fn nothing()
 END
 }
 
-# What rt ci writes of the sample's edits. The first is refused by a false goal. The second has no error: its proof was made without a file.
+# What rt ci writes of the sample's edits. The first is refused by a false goal. The second has no error: its proof was made without a
+# file.
 sample_logs() {
     put "$top/target/rt-ci.log" <<'END'
 rt: core proved

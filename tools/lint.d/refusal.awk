@@ -4,7 +4,8 @@
 #
 # usage: awk -v edit=CRATE/LABEL.edit -f refusal.awk WHAT-RT-WROTE
 #
-# rt writes the first error, which decides, since others may rest on it. A function without a proof file has no error but a note.
+# rt writes the first error that is of more than a name which a proof file has and the edited code has not. It decides, since others may
+# rest on it. A function's goal that has no answer, or one under another name, has no error but a note.
 
 # The name of what is checked stands before the message of an error, but not where a text can't be read.
 function why_of_error(line,    place, message) {
