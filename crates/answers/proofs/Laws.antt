@@ -1,4 +1,4 @@
--- Laws of an order of refusals, one for each thing that can be known of a test.
+-- Laws of an order of refusals, one for each thing that can be known of a test, and that a refusal's number tells it.
 use Prim.Native.Nat.{ℕ, ◌<◌}
 use mathlib.Core.Path.{◌≡◌, refl, sym, ◌∙◌}
 use mathlib.Core.Bool.{Bool, true, false, ◌&&◌, ◌||◌, cond, and-eq-true_iff, false≢true}
@@ -7,6 +7,10 @@ use native.Mathlib.Omega.{arith}
 use lib.Dec.{ltb, eqb}
 use borrow.Author.Tests.{eq-eqb, ne_eqb, ltb-true}
 use Rattle.answers.specs.Answers.{done}
+use Rattle.answers.specs.declared.Refusal.{Refusal}
+use Rattle.answers.specs.declared.Refusal.TheVariants.{Invalid, BadAccess, ReadOnly, NoRegister, DeviceOff, BadSlot, NoRoom}
+use Rattle.answers.specs.declared.Refusal.TheVariants.{NotOffered, Malformed, BadIndex, NothingToRead, BadSetting}
+use Rattle.answers.specs.Refusal.{number_of}
 use Rattle.answers.specs.Refusals.{first_refusal}
 
 -- a test that doesn't hold is passed
@@ -56,3 +60,18 @@ unfolding first_refusal
 never_answers number [] none e = false≢true (sym none ∙ eq-eqb done number e)
 never_answers number ((true, other) ∷ rest) none e = false≢true (sym (rw (eq-eqb other number e) at none))
 never_answers number ((false, other) ∷ rest) none e = never_answers number rest (either_none (eqb other number) _ none) e
+
+-- no refusal has the number of what is done
+pub never_done : (refusal : Refusal) → number_of refusal ≡ done → ⊥
+never_done Invalid e = omega arith
+never_done BadAccess e = omega arith
+never_done ReadOnly e = omega arith
+never_done NoRegister e = omega arith
+never_done DeviceOff e = omega arith
+never_done BadSlot e = omega arith
+never_done NoRoom e = omega arith
+never_done NotOffered e = omega arith
+never_done Malformed e = omega arith
+never_done BadIndex e = omega arith
+never_done NothingToRead e = omega arith
+never_done BadSetting e = omega arith

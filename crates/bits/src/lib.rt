@@ -5,24 +5,20 @@ ghost use Rattle.std.specs.Prelude.{◌≡◌, true, false, ◌^◌, ◌<◌, �
 ghost use Rattle.bits.specs.Bits.{bit, bit_of, with_bit, without_bit, assign_bit, IsLength};
 
 // Any index gets an answer: past the mask's width no bit is set.
+#[tactic(auto, unfolding(crate::specs::Bits::bit))]
 pub fn is_set(mask: u64, index: u32) -> bool
     ensures { result ≡ bit mask index }
 {
-    if index >= 64 {
-        return false;
-    }
-    (mask >> index) % 2 == 1
+    index < 64 && (mask >> index) % 2 == 1
 }
 
 pub fn bit_of(set: bool) -> u32
     ensures { (result ≡ bit_of set) × (result ≤ 1) }
 {
-    if set {
-        return 1;
-    }
-    0
+    u32::from(set)
 }
 
+// Kept: each caller knows `index < 64` from a slot that is in range. A type for a bit's index would be made of it at every call.
 fn power(index: u32) -> u64
     requires { index < 64 }
     ensures { result ≡ 2 ^ index }
@@ -44,25 +40,21 @@ pub fn clear(mask: u64, index: u32) -> u64
     mask - power(index)
 }
 
+#[tactic(auto, unfolding(crate::specs::Bits::assign_bit))]
 pub fn assign(mask: u64, index: u32, given: bool) -> u64
     requires { index < 64 }
     ensures { result ≡ assign_bit mask index given }
 {
-    if is_set(mask, index) {
-        if given {
-            return mask;
-        }
-        return clear(mask, index);
+    match (is_set(mask, index), given) {
+        (false, true) => set(mask, index),
+        (true, false) => clear(mask, index),
+        _ => mask,
     }
-    if given {
-        return set(mask, index);
-    }
-    mask
 }
 
 // How many bits a mask has up to its highest one that is set.
 pub fn length(mask: u64) -> u32
     ensures { IsLength mask result }
 {
-    64 - u64::leading_zeros(mask)
+    64 - mask.leading_zeros()
 }

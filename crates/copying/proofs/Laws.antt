@@ -1,5 +1,4 @@
--- By subject: a stretch replaced, one that a loop has yet to write, stretches that agree, and parts read byte by byte.
+-- By subject: a stretch replaced, one that a loop has yet to write, and stretches that agree.
 pub mod Overwrite
 pub mod Remains
 pub mod Agree
-pub mod Part

@@ -5,7 +5,7 @@ use mathlib.Core.Bool.{true, false, false≢true}
 use native.Mathlib.Omega.{arith}
 use lib.Dec.{T}
 use lib.IntN.{ℤ, pos, negsuc, nat_abs, ◌-ℤ◌}
-use lib.Signed.{mag, non_neg, lt_z}
+use lib.Signed.{non_neg, lt_z}
 use borrow.Author.Tests.{ltb-true, le-ltb}
 use mir.Syntax.{Width, w8, w16, w32, w64, w128}
 use mir.Val.{Fits, SFits, bits, hbits}
@@ -25,15 +25,6 @@ two_halves w16 = refl
 two_halves w32 = refl
 two_halves w64 = refl
 two_halves w128 = refl
-
--- ---- a number that is passed or stored goes through its bits
-
-pub passed : (width : Width) (value : ℤ) {pattern : ℕ} → mag value < half width
-    → pattern ≡ to_bits width (from_bits width (to_bits width value)) → pattern ≡ to_bits width value
-passed width value small e = e ∙ ap (to_bits width) (to_z-of_z {w = width} {z = value} (record { sfits = small }))
-
-pub stored : (width : Width) (value : ℤ) {same : ℤ} → mag value < half width → value ≡ same → from_bits width (to_bits width value) ≡ same
-stored width value small e = to_z-of_z {w = width} {z = value} (record { sfits = small }) ∙ e
 
 -- ---- down from -1
 

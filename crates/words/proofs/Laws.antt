@@ -1,2 +1,3 @@
--- One subject: words written, read back, and apart from other bytes.
+-- By subject: words written, read back, and apart from other bytes; the halves of a word of 64 bits.
 pub mod Word
+pub mod Halves

@@ -1,14 +1,12 @@
--- A mask below 2^64 has no bit from 64 on, which settles any larger index; below that the shift is the definition's division.
-use mathlib.Core.Path.{refl}
-use Rattle.bits.specs.Bits.{bit}
+-- A mask below 2^64 has no bit from 64 on.
+use mathlib.Core.Path.{◌≡◌, sym, ◌∙◌}
+use mathlib.Core.Bool.{false}
 use native.Mathlib.Omega.{arith}
-use mathlib.Core.Path.{sym}
+use Rattle.std.specs.Prelude.{nat_lt}
+use Rattle.std.proofs.Common.{rules}
 use Rattle.bits.proofs.Laws.{bit_above}
 use Rattle.bits.proofs.is_set.Goals as goal
 
-pub returns-then-index-ge64 : goal.returns-then-index-ge64
-returns-then-index-ge64 c = sym (bit_above c.args.mask 64 _ (omega arith) c.if-index-ge64.true)
-
-pub returns : goal.returns
-unfolding bit
-returns c = refl
+pub returns-else-index-lt64 : goal.returns-else-index-lt64
+returns-else-index-lt64 c = let past : nat_lt c.args.index 64 ≡ false = search rules in
+    past ∙ sym (bit_above c.args.mask 64 _ (omega arith) c.if-index-lt64.false)

@@ -7,16 +7,9 @@ use native.Mathlib.Nat.{add_assoc}
 use native.Mathlib.Numerals.{add-one}
 use lib.ListN.{length, get_or, take, drop, set, length-append, length-take}
 use lib.ListN.{length-drop, take-append-drop, drop_of_length-le, get_or-append}
-use lib.Seq.{sets, sets-eq, set_split, get_or-append-add, get_or-take, get_or-drop}
+use lib.Seq.{set_split, get_or-append-add, get_or-take, get_or-drop}
 use lib.Seq.{length-take-le, take-append-le, take-take, take_at, drop_at, drop-drop}
 use Rattle.copying.specs.Copying.{overwrite, Agree}
-
--- every byte of a stretch stored, one after the other
-pub all_stored : (values bytes : List ℕ) → length bytes ≡ length values → sets bytes 0 values ≡ values
-all_stored values bytes h =
-    sets-eq values bytes 0 (omega arith)
-    ∙ ap (λ (r : List ℕ). values ++ r) (drop_of_length-le bytes {i = 0 + length values} (omega arith))
-    ∙ append-nil values
 
 -- what a part that was lent and filled leaves
 pub lent : (bytes : List ℕ) {part stretch : List ℕ} (at : ℕ) → part ≡ stretch

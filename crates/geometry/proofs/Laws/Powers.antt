@@ -5,7 +5,7 @@ use mathlib.Core.Bool.{Bool, true, false, ◌&&◌, false≢true}
 use native.Mathlib.Omega.{arith}
 use lib.Bits.{bit_and}
 use lib.Dec.{eqb}
-use borrow.Author.Tests.{eqb-true, eqb-false, ne_eqb}
+use borrow.Author.Tests.{eqb-true, eqb-false}
 use Rattle.geometry.specs.Geometry.{is_record_size}
 use Rattle.geometry.proofs.Laws.Allowed.{both}
 
@@ -50,23 +50,3 @@ unfolding is_power
 powers size low high =
     subst (λ (n : ℕ). eqb (bit_and n (n - 1)) 0 ≡ is_record_size n) (omega (arith, low))
     (each 57 on_all (size - 8) (omega (arith, low, high)))
-
-pub too_small : (size : ℕ) → size < 8 → false ≡ is_record_size size
-unfolding is_record_size
-too_small size low =
-    rw (
-      ne_eqb size 8 (λ e. omega (arith, e, low)),
-      ne_eqb size 16 (λ e. omega (arith, e, low)),
-      ne_eqb size 32 (λ e. omega (arith, e, low)),
-      ne_eqb size 64 (λ e. omega (arith, e, low)),
-    )
-
-pub too_large_lem : (size : ℕ) → 64 < size → false ≡ is_record_size size
-unfolding is_record_size
-too_large_lem size high =
-    rw (
-      ne_eqb size 8 (λ e. omega (arith, e, high)),
-      ne_eqb size 16 (λ e. omega (arith, e, high)),
-      ne_eqb size 32 (λ e. omega (arith, e, high)),
-      ne_eqb size 64 (λ e. omega (arith, e, high)),
-    )

@@ -1,6 +1,7 @@
--- Two bytes are lent to fill_u16; a lent part that is filled is an overwrite at its place.
-use Rattle.copying.proofs.Laws.Overwrite.{lent}
+-- A part of the buffer is lent, and filled with the bytes of the word, lowest first.
+use mathlib.Core.Path.{refl, ◌∙◌}
+use Rattle.copying.proofs.Laws.Overwrite.{lent_part}
 use Rattle.words.proofs.write_u16.Goals as goal
 
 pub returns : goal.returns
-returns c = lent c.args.bytes.now c.args.at c.fill_u16.ensures
+returns c = lent_part c.args.bytes.now c.args.at 2 refl (c.copy_from_slice.ensures.after ∙ c.to_le_bytes.ensures)

@@ -1,6 +1,7 @@
--- As for 16 bits, with a part of four bytes: what fill_u32 leaves in it overwrites the buffer there.
-use Rattle.copying.proofs.Laws.Overwrite.{lent}
+-- A part of the buffer is lent, and filled with the bytes of the word, lowest first.
+use mathlib.Core.Path.{refl, ◌∙◌}
+use Rattle.copying.proofs.Laws.Overwrite.{lent_part}
 use Rattle.words.proofs.write_u32.Goals as goal
 
 pub returns : goal.returns
-returns c = lent c.args.bytes.now c.args.at c.fill_u32.ensures
+returns c = lent_part c.args.bytes.now c.args.at 4 refl (c.copy_from_slice.ensures.after ∙ c.to_le_bytes.ensures)
