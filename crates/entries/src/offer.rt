@@ -6,7 +6,7 @@ ghost use Rattle.records.specs.Codes.{ev_syn, ev_key, ev_rel, ev_abs, syn_mt_rep
 ghost use Rattle.entries.specs.Entry.{evbits};
 ghost use Rattle.entries.specs.Offer.{absolute_bit, button_bit, is_offered};
 
-use crate::EVBITS;
+use crate::{EVBITS, KNOWN_LENGTH};
 use records::Event;
 use records::codes::{EV_ABS, EV_KEY, EV_REL, EV_SYN, SYN_MT_REPORT};
 
@@ -42,70 +42,43 @@ pub(crate) fn has_type(entry: &[u8], kind: u16) -> bool
     bits::is_set(words::read_u32(entry, EVBITS) as u64, kind as u32)
 }
 
-fn offers_report(entry: &[u8], code: u16) -> bool
-    requires { length entry.now ≡ 68 }
+fn offers_report(entry: &[u8; KNOWN_LENGTH], code: u16) -> bool
     ensures { result ≡ (bit (evbits entry.now) ev_syn && eqb code syn_mt_report) }
 {
-    if !has_type(entry, EV_SYN) {
-        return false;
-    }
-    code == SYN_MT_REPORT
+    has_type(entry, EV_SYN) && code == SYN_MT_REPORT
 }
 
-fn offers_button(entry: &[u8], code: u16) -> bool
-    requires { length entry.now ≡ 68 }
+fn offers_button(entry: &[u8; KNOWN_LENGTH], code: u16) -> bool
     ensures { result ≡ (bit (evbits entry.now) ev_key
         && (leb 0x100 code && (leb code 0x15F && button_bit entry.now code))) }
 {
-    if !has_type(entry, EV_KEY) {
-        return false;
-    }
-    if code < FIRST_BUTTON {
-        return false;
-    }
-    if code > LAST_BUTTON {
-        return false;
-    }
-    mask_bit(entry, BTNBITS, code - FIRST_BUTTON)
+    has_type(entry, EV_KEY)
+        && (FIRST_BUTTON..=LAST_BUTTON).contains(&code)
+        && mask_bit(entry, BTNBITS, code - FIRST_BUTTON)
 }
 
 // The mask of relative codes isn't asked.
-fn offers_relative(entry: &[u8], code: u16) -> bool
-    requires { length entry.now ≡ 68 }
+fn offers_relative(entry: &[u8; KNOWN_LENGTH], code: u16) -> bool
     ensures { result ≡ (bit (evbits entry.now) ev_rel && ltb code 32) }
 {
-    if !has_type(entry, EV_REL) {
-        return false;
-    }
-    code < 32
+    has_type(entry, EV_REL) && code < 32
 }
 
-fn offers_absolute(entry: &[u8], code: u16) -> bool
-    requires { length entry.now ≡ 68 }
+fn offers_absolute(entry: &[u8; KNOWN_LENGTH], code: u16) -> bool
     ensures { result ≡ (bit (evbits entry.now) ev_abs && (ltb code 64 && absolute_bit entry.now code)) }
 {
-    if !has_type(entry, EV_ABS) {
-        return false;
-    }
-    if code >= 64 {
-        return false;
-    }
-    mask_bit(entry, ABSBITS, code)
+    has_type(entry, EV_ABS) && code < 64 && mask_bit(entry, ABSBITS, code)
 }
 
-// By compares, one of which is no equation: four equations would become a jump through a table. Axes of a panel come most often, several
-// for each finger.
-pub fn is_offered(entry: &[u8], event: Event) -> bool
-    requires { length entry.now ≡ 68 }
+// By compares, one of which is no equation: four equations, as a match has them, would become a jump through a table. Axes of a panel come
+// most often, several for each finger.
+#[tactic(auto, using(crate::proofs::Laws::Offer::by_type))]
+pub fn is_offered(entry: &[u8; KNOWN_LENGTH], event: Event) -> bool
     ensures { result ≡ is_offered entry.now event }
 {
-    let kind = event.kind;
-    let code = event.code;
+    let Event { kind, code, .. } = event;
     if kind > EV_REL {
-        if kind == EV_ABS {
-            return offers_absolute(entry, code);
-        }
-        return false;
+        return kind == EV_ABS && offers_absolute(entry, code);
     }
     if kind == EV_REL {
         return offers_relative(entry, code);

@@ -9,3 +9,4 @@ pub mod Remains
 pub mod Packet
 pub mod Unread
 pub mod Unknown
+pub mod PutFrom

@@ -4,3 +4,4 @@ pub mod Packet
 pub mod Ring
 pub mod Put
 pub mod Unread
+pub mod Index

@@ -1,4 +1,5 @@
 // Types and codes of records, by Linux's names, and the records that the device itself makes.
+// Kept as numbers: a record may have any type and code, and `decode` and `encode` answer for all of them (`event_at`, `event_bytes`).
 ghost use Rattle.std.specs.Prelude.{◌≡◌};
 ghost use Rattle.records.specs.Codes.{syn_record, dev_record};
 
@@ -55,7 +56,7 @@ pub fn syn_record(code: u16) -> Event
 {
     Event {
         kind: EV_SYN,
-        code: code,
+        code,
         value: 0,
     }
 }
@@ -65,7 +66,7 @@ pub fn dev_record(code: u16, slot: u32) -> Event
 {
     Event {
         kind: EV_DEV,
-        code: code,
+        code,
         value: slot,
     }
 }

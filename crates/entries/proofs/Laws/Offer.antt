@@ -50,3 +50,6 @@ module _ (entry : List ℕ) (event : Event) where
     ne_eqb event.kind ev_rel (λ e. omega arith),
     ne_eqb event.kind ev_abs (λ e. omega arith),
   )
+
+-- what an entry offers, by the type of the event
+pub ruleset by_type = (of_reports, of_buttons, of_relative, of_absolute, of_others)

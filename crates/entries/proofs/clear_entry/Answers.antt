@@ -6,11 +6,12 @@ use Rattle.entries.proofs.Laws.Store.{entry_cleared}
 use Rattle.entries.proofs.clear_entry.Goals as goal
 
 pub returns : goal.returns
-returns c = entry_cleared c.args.geometry c.args.page.now c.args.slot c.entry_place-start.ensures ((omega (
-  arith,
-  c.entry_place-start.ensures,
-  entry_inside c.args.geometry (sizes c.args.geometry c.requires.0)
-      c.args.slot c.requires.1,
-  c.requires.2,
-)))
+returns c = let geometry = c.args.slot.layout.geometry in
+    entry_cleared geometry c.args.page.now c.args.slot.number c.entry_place-start.ensures
+    (omega (
+      arith,
+      c.entry_place-start.ensures,
+      entry_inside geometry (sizes geometry c.args.slot.layout.is_allowed) c.args.slot.number c.args.slot.in_range,
+      c.requires,
+    ))
     c.clear.ensures

@@ -6,11 +6,12 @@ use Rattle.entries.proofs.Laws.Store.{entry_stored}
 use Rattle.entries.proofs.write_entry.Goals as goal
 
 pub returns : goal.returns
-returns c = entry_stored c.args.geometry c.args.page.now c.args.slot c.entry_place-start.ensures ((omega (
-  arith,
-  c.entry_place-start.ensures,
-  entry_inside c.args.geometry (sizes c.args.geometry c.requires.geometry_value.0)
-      c.args.slot c.requires.geometry_value.1,
-  c.requires.page_len.0,
-)))
-    c.args.entry.now c.requires.page_len.1 c.copy.ensures
+returns c = let geometry = c.args.slot.layout.geometry in
+    entry_stored geometry c.args.page.now c.args.slot.number c.entry_place-start.ensures
+    (omega (
+      arith,
+      c.entry_place-start.ensures,
+      entry_inside geometry (sizes geometry c.args.slot.layout.is_allowed) c.args.slot.number c.args.slot.in_range,
+      c.requires.0,
+    ))
+    c.args.entry.now c.requires.1 c.copy.ensures

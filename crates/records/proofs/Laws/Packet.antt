@@ -23,9 +23,6 @@ module _ (packet : List ℕ) where
   pub counted : length (events_of packet) ≡ event_count packet
   counted = events_length packet 0 (event_count packet)
 
-  pub event_inside : (i : ℕ) → i < event_count packet → i * 8 + 8 ≤ length packet
-  event_inside i low = omega arith
-
   pub event_of_lem : (i : ℕ) → i < event_count packet → get_or (events_of packet) i none ≡ event_at packet (i * 8)
   event_of_lem i low =
       let e : 0 + i * 8 ≡ i * 8 = omega arith in
