@@ -35,6 +35,14 @@ with_unknown gesture = record {
   known = false;
 }
 
+-- An axis that the packet didn't have yet.
+abbrev pub once : ℕ → Axis
+once value = record { given = true; repeated = false; value = value }
+
+-- What was read, unless the axis was given before: then the packet has an event without a form.
+abbrev pub unless_given : Axis → Gesture → Gesture → Gesture
+unless_given axis gesture after = cond axis.given (with_unknown gesture) after
+
 abbrev pub axis_with : ℕ → ℕ → Event → Axis → Axis
 axis_with kind code event axis =
     cond (is kind code event) (record { given = true; repeated = axis.given; value = event.value }) axis

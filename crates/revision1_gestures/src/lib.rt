@@ -6,6 +6,8 @@ mod scan;
 pub use scan::{gesture_of, has_form, is_button};
 
 // An axis, or the wheel, of a packet.
+// Kept: `has_form` and `record_count` answer for gestures with a repeated axis or an unknown event, too. An Option for each axis has none
+// of these, and would ask more of their callers.
 #[derive(Clone, Copy)]
 pub struct Axis {
     pub given: bool,

@@ -4,7 +4,7 @@ ghost use Rattle.records.specs.Codes as codes;
 ghost use Rattle.records.specs.Event.{most_events};
 ghost use Rattle.records.specs.Packet.{event_count, events_of};
 ghost use Rattle.revision1_gestures.specs.Gesture.{is_button, gesture_of};
-ghost use Rattle.revision1_gestures.specs.Scan.{missing, unread, with_unknown, read_with, Tells};
+ghost use Rattle.revision1_gestures.specs.Scan.{missing, unread, with_unknown, once, unless_given, read_with, Tells};
 ghost use Rattle.revision1_gestures.specs.Form.{is_repeated, is_plain, has_form};
 
 use crate::{Axis, Gesture};
@@ -42,83 +42,101 @@ fn nothing() -> Gesture
 pub fn is_button(event: Event) -> bool
     ensures { result ≡ is_button event }
 {
-    if event.kind != EV_KEY {
-        return false;
-    }
-    if event.code < BTN_LEFT {
-        return false;
-    }
-    event.code <= BTN_MIDDLE
+    event.kind == EV_KEY && BTN_LEFT <= event.code && event.code <= BTN_MIDDLE
 }
 
 // An axis that the packet didn't have yet.
-fn first(value: u32) -> Axis
-    ensures { result ≡ record { given = true; repeated = false; value = value } }
+fn once(value: u32) -> Axis
+    ensures { result ≡ once value }
 {
     Axis {
         given: true,
         repeated: false,
-        value: value,
+        value,
     }
 }
 
 fn with_unknown(gesture: Gesture) -> Gesture
     ensures { result ≡ with_unknown gesture }
 {
-    let mut after = gesture;
-    after.known = false;
-    after
+    Gesture {
+        known: false,
+        ..gesture
+    }
 }
 
+// Kept: that a gesture is plain is asked by these three alone. A type for it would be a second Gesture, made and taken apart at each event.
+fn unless_given(axis: Axis, gesture: Gesture, after: Gesture) -> Gesture
+    ensures { result ≡ unless_given axis gesture after }
+{
+    if axis.given {
+        with_unknown(gesture)
+    } else {
+        after
+    }
+}
+
+#[tactic(auto, using(crate::proofs::Laws::Axes::by_axis))]
 fn with_relative(gesture: Gesture, event: Event) -> Gesture
     requires { (event.kind ≡ codes.ev_rel) × (is_plain gesture ≡ true) }
     ensures { result ≡ read_with event gesture }
 {
-    let mut after = gesture;
-    if event.code == REL_X {
-        if gesture.relative_x.given {
-            return with_unknown(gesture);
-        }
-        after.relative_x = first(event.value);
-        return after;
+    let axis = once(event.value);
+    match event.code {
+        REL_X => unless_given(
+            gesture.relative_x,
+            gesture,
+            Gesture {
+                relative_x: axis,
+                ..gesture
+            },
+        ),
+        REL_Y => unless_given(
+            gesture.relative_y,
+            gesture,
+            Gesture {
+                relative_y: axis,
+                ..gesture
+            },
+        ),
+        REL_WHEEL => unless_given(
+            gesture.wheel,
+            gesture,
+            Gesture {
+                wheel: axis,
+                ..gesture
+            },
+        ),
+        _ => with_unknown(gesture),
     }
-    if event.code == REL_Y {
-        if gesture.relative_y.given {
-            return with_unknown(gesture);
-        }
-        after.relative_y = first(event.value);
-        return after;
-    }
-    if event.code == REL_WHEEL {
-        if gesture.wheel.given {
-            return with_unknown(gesture);
-        }
-        after.wheel = first(event.value);
-        return after;
-    }
-    with_unknown(gesture)
 }
 
+// Kept beside with_relative: each names its own axes, and one for both would be given them by a match at its call.
+#[tactic(auto, using(crate::proofs::Laws::Axes::by_axis))]
 fn with_absolute(gesture: Gesture, event: Event) -> Gesture
     requires { (event.kind ≡ codes.ev_abs) × (is_plain gesture ≡ true) }
     ensures { result ≡ read_with event gesture }
 {
-    let mut after = gesture;
-    if event.code == ABS_X {
-        if gesture.absolute_x.given {
-            return with_unknown(gesture);
-        }
-        after.absolute_x = first(event.value);
-        return after;
+    let axis = once(event.value);
+    match event.code {
+        ABS_X => unless_given(
+            gesture.absolute_x,
+            gesture,
+            Gesture {
+                absolute_x: axis,
+                ..gesture
+            },
+        ),
+        ABS_Y => unless_given(
+            gesture.absolute_y,
+            gesture,
+            Gesture {
+                absolute_y: axis,
+                ..gesture
+            },
+        ),
+        _ => with_unknown(gesture),
     }
-    if event.code == ABS_Y {
-        if gesture.absolute_y.given {
-            return with_unknown(gesture);
-        }
-        after.absolute_y = first(event.value);
-        return after;
-    }
-    with_unknown(gesture)
 }
 
 fn with_event(gesture: Gesture, event: Event) -> Gesture
@@ -134,26 +152,26 @@ fn with_event(gesture: Gesture, event: Event) -> Gesture
     if !is_button(event) {
         return with_unknown(gesture);
     }
-    let mut after = gesture;
-    after.buttons = gesture.buttons + 1;
-    after
+    Gesture {
+        buttons: gesture.buttons + 1,
+        ..gesture
+    }
 }
 
 // An event without a form, or one that comes again, leaves the packet without one: it isn't read further, and the loop needn't hold what
 // is repeated.
+// Kept: that a packet has so many events at most is a fact of bytes that are lent. A type for it would be a borrow in a struct, made once
+// and opened by each function that reads the bytes.
 pub fn gesture_of(packet: &[u8]) -> Gesture
     requires { event_count packet.now ≤ most_events }
     ensures { Tells result (gesture_of (events_of packet.now)) }
 {
-    let count = packet.len() / 8;
     let mut gesture = nothing();
-    let mut i: usize = 0;
-    while i < count {
+    for i in 0..packet.len() / 8 {
         gesture = with_event(gesture, records::decode(packet, i * 8));
         if !gesture.known {
             return gesture;
         }
-        i += 1;
     }
     gesture
 }
@@ -161,38 +179,21 @@ pub fn gesture_of(packet: &[u8]) -> Gesture
 fn is_repeated(gesture: Gesture) -> bool
     ensures { result ≡ is_repeated gesture }
 {
-    if gesture.relative_x.repeated {
-        return true;
-    }
-    if gesture.relative_y.repeated {
-        return true;
-    }
-    if gesture.absolute_x.repeated {
-        return true;
-    }
-    if gesture.absolute_y.repeated {
-        return true;
-    }
-    gesture.wheel.repeated
+    gesture.relative_x.repeated
+        || gesture.relative_y.repeated
+        || gesture.absolute_x.repeated
+        || gesture.absolute_y.repeated
+        || gesture.wheel.repeated
 }
 
+#[tactic(auto, unfolding(crate::specs::Form::has_form))]
 pub fn has_form(acceleration: u16, gesture: Gesture) -> bool
     ensures { result ≡ has_form acceleration gesture }
 {
-    if !gesture.known {
-        return false;
-    }
-    if is_repeated(gesture) {
-        return false;
-    }
-    if !is_in_range(acceleration, gesture.relative_x.value) {
-        return false;
-    }
-    if !is_in_range(acceleration, gesture.relative_y.value) {
-        return false;
-    }
-    if gesture.absolute_x.value > 65535 {
-        return false;
-    }
-    gesture.absolute_y.value <= 65535
+    gesture.known
+        && !is_repeated(gesture)
+        && is_in_range(acceleration, gesture.relative_x.value)
+        && is_in_range(acceleration, gesture.relative_y.value)
+        && gesture.absolute_x.value <= 65535
+        && gesture.absolute_y.value <= 65535
 }

@@ -14,36 +14,36 @@ fn is_negative(value: u32) -> bool
 fn size_of(value: u32) -> u32
     ensures { (result ≡ size_of value) × (result ≤ 2 ^ 31) }
 {
-    if is_negative(value) {
-        return 0xFFFF_FFFF - value + 1;
-    }
-    value
+    value.cast_signed().unsigned_abs()
 }
 
 fn scaled_size(acceleration: u16, value: u32) -> u64
     ensures { result ≡ scaled_size acceleration value }
 {
-    let size = size_of(value) as u64;
-    size * (acceleration as u64) / 10
+    u64::from(size_of(value)) * u64::from(acceleration) / 10
 }
 
 // Whether the scaled number has 16 bits.
+#[tactic(auto, unfolding(crate::specs::Scaling::is_in_range))]
 pub fn is_in_range(acceleration: u16, value: u32) -> bool
     ensures { result ≡ is_in_range acceleration value }
 {
     let size = scaled_size(acceleration, value);
     if is_negative(value) {
-        return size <= 32768;
+        size <= 32768
+    } else {
+        size <= 32767
     }
-    size <= 32767
 }
 
+#[tactic(auto, unfolding(crate::specs::Scaling::scaled))]
 pub fn scaled(acceleration: u16, value: u32) -> u32
     ensures { (result ≡ spec.scaled acceleration value) × (result < 65536) }
 {
     let size = (scaled_size(acceleration, value) % 65536) as u32;
     if is_negative(value) {
-        return (65536 - size) % 65536;
+        (65536 - size) % 65536
+    } else {
+        size
     }
-    size
 }

@@ -1,4 +1,5 @@
-// Records of revision 1, by the flags of 001.
+// Records of revision 1, by the flags of the device's page.
+// Kept as numbers: they are bits of a record's 16, which the definitions add up (`flagged`, `button_flag`).
 ghost use Rattle.std.specs.Prelude.{◌≡◌, true};
 ghost use Rattle.revision1_records.specs.Flags.{flagged as record_of, button_flag};
 ghost use Rattle.revision1_records.specs.Records.{button_record};
@@ -39,26 +40,18 @@ pub(crate) fn flagged(flags: u16, content: u32) -> Event
     }
 }
 
+#[tactic(auto, unfolding(crate::specs::Flags::button_flag))]
 fn button_flag(code: u16, value: u32) -> u16
     ensures { result ≡ button_flag code value }
 {
-    let up = value == 0;
-    if code == BTN_LEFT {
-        if up {
-            return LEFT_BUTTON_UP;
-        }
-        return LEFT_BUTTON_DOWN;
+    match (code, value) {
+        (BTN_LEFT, 0) => LEFT_BUTTON_UP,
+        (BTN_LEFT, _) => LEFT_BUTTON_DOWN,
+        (BTN_RIGHT, 0) => RIGHT_BUTTON_UP,
+        (BTN_RIGHT, _) => RIGHT_BUTTON_DOWN,
+        (_, 0) => MIDDLE_BUTTON_UP,
+        _ => MIDDLE_BUTTON_DOWN,
     }
-    if code == BTN_RIGHT {
-        if up {
-            return RIGHT_BUTTON_UP;
-        }
-        return RIGHT_BUTTON_DOWN;
-    }
-    if up {
-        return MIDDLE_BUTTON_UP;
-    }
-    MIDDLE_BUTTON_DOWN
 }
 
 pub(crate) fn button_record(event: Event) -> Event

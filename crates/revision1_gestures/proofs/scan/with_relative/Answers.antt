@@ -1,106 +1,19 @@
--- The type is known and each branch knows the code: an axis that was given would be repeated, and a new one leaves the packet plain.
+-- A code of no axis leaves the packet an event without a form.
 use mathlib.Core.Path.{sym, ◌∙◌}
-use mathlib.Core.Bool.{and-true}
-use native.Mathlib.Nat.{add-zero}
+use native.Mathlib.Omega.{arith}
 use borrow.Author.Tests.{ne_eqb}
 use Rattle.revision1_gestures.specs.Scan.{gesture_with}
-use Rattle.revision1_gestures.proofs.Laws.Plain.{plain_parts, reads_on, stops}
+use Rattle.revision1_gestures.proofs.Laws.Plain.{plain_parts, stops}
 use Rattle.revision1_gestures.proofs.scan.with_relative.Goals as goal
 
-pub returns-then-gesture : goal.returns-then-gesture
+pub returns-in_default : goal.returns-in_default
 unfolding gesture_with
-returns-then-gesture c = let plain = plain_parts c.args.gesture c.requires.1 in
+returns-in_default c = let plain = plain_parts c.args.gesture c.requires.1 in
     c.with_unknown.ensures
     ∙ sym (stops c.args.event c.args.gesture (rw (
       c.requires.0,
-      c.if-event-eq-REL_X.true,
-      c.if-gesture.true,
-      plain.knows,
-    )))
-
-pub returns-then-event-eq-REL_X : goal.returns-then-event-eq-REL_X
-unfolding gesture_with
-returns-then-event-eq-REL_X c = let plain = plain_parts c.args.gesture c.requires.1 in
-    rw (reads_on c.args.event c.args.gesture (rw (
-      c.requires.0,
-      c.if-event-eq-REL_X.true,
-      c.if-gesture.false,
-      plain.knows,
-      plain.relative_y,
-      plain.absolute_x,
-      plain.absolute_y,
-      plain.wheel,
-    )))
-    (rw (c.requires.0, c.if-event-eq-REL_X.true, c.if-gesture.false, and-true c.args.gesture.known, add-zero c.args.gesture.buttons)
-    (rw c.first-after.ensures))
-
-pub returns-then-gesture-2 : goal.returns-then-gesture-2
-unfolding gesture_with
-returns-then-gesture-2 c = let plain = plain_parts c.args.gesture c.requires.1 in
-    c.with_unknown-then-gesture-2.ensures
-    ∙ sym (stops c.args.event c.args.gesture (rw (
-      c.requires.0,
-      c.if-event-eq-REL_Y.true,
-      c.if-gesture-2.true,
-      plain.knows,
-      plain.relative_x,
-    )))
-
-pub returns-then-event-eq-REL_Y : goal.returns-then-event-eq-REL_Y
-unfolding gesture_with
-returns-then-event-eq-REL_Y c = let plain = plain_parts c.args.gesture c.requires.1 in
-    rw (reads_on c.args.event c.args.gesture (rw (
-      c.requires.0,
-      c.if-event-eq-REL_Y.true,
-      c.if-gesture-2.false,
-      plain.knows,
-      plain.relative_x,
-      plain.absolute_x,
-      plain.absolute_y,
-      plain.wheel,
-    )))
-    (rw (c.requires.0, c.if-event-eq-REL_Y.true, c.if-gesture-2.false, and-true c.args.gesture.known, add-zero c.args.gesture.buttons)
-    (rw c.first-after-then-event-eq-REL_Y.ensures))
-
-pub returns-then-gesture-3 : goal.returns-then-gesture-3
-unfolding gesture_with
-returns-then-gesture-3 c = let plain = plain_parts c.args.gesture c.requires.1 in
-    c.with_unknown-then-gesture-3.ensures
-    ∙ sym (stops c.args.event c.args.gesture (rw (
-      c.requires.0,
-      c.if-event-eq-REL_WHEEL.true,
-      c.if-gesture-3.true,
-      plain.knows,
-      plain.relative_x,
-      plain.relative_y,
-      plain.absolute_x,
-      plain.absolute_y,
-    )))
-
-pub returns-then-event-eq-REL_WHEEL : goal.returns-then-event-eq-REL_WHEEL
-unfolding gesture_with
-returns-then-event-eq-REL_WHEEL c = let plain = plain_parts c.args.gesture c.requires.1 in
-    rw (reads_on c.args.event c.args.gesture (rw (
-      c.requires.0,
-      c.if-event-eq-REL_WHEEL.true,
-      c.if-gesture-3.false,
-      plain.knows,
-      plain.relative_x,
-      plain.relative_y,
-      plain.absolute_x,
-      plain.absolute_y,
-    )))
-    (rw (c.requires.0, c.if-event-eq-REL_WHEEL.true, c.if-gesture-3.false, and-true c.args.gesture.known, add-zero c.args.gesture.buttons)
-    (rw c.first-after-then-event-eq-REL_WHEEL.ensures))
-
-pub returns : goal.returns
-unfolding gesture_with
-returns c = let plain = plain_parts c.args.gesture c.requires.1 in
-    c.with_unknown-2.ensures
-    ∙ sym (stops c.args.event c.args.gesture (rw (
-      c.requires.0,
-      ne_eqb _ _ c.if-event-eq-REL_X.false,
-      ne_eqb _ _ c.if-event-eq-REL_Y.false,
-      ne_eqb _ _ c.if-event-eq-REL_WHEEL.false,
+      ne_eqb c.args.event.code 0 (λ e. omega arith),
+      ne_eqb c.args.event.code 1 (λ e. omega arith),
+      ne_eqb c.args.event.code 8 (λ e. omega arith),
       plain.knows,
     )))

@@ -6,11 +6,17 @@ use Rattle.revision1_records.proofs.Laws.Buttons.{buttons_go_on, buttons_end}
 use Rattle.revision1_records.proofs.group.put_each_button.Goals as goal
 
 pub loop-i-preserved : goal.loop-i-preserved
-loop-i-preserved c = buttons_go_on c.args.ring c.args.index (events_of c.args.packet.now) c.args.area.now c.loop-i.i c.loop-i.invariant
-    (rw (counted c.args.packet.now) c.loop-i-test.true)
-    (c.decode-event.ensures ∙ sym (event_of_lem c.args.packet.now c.loop-i.i c.loop-i-test.true))
-    c.put_button-at.ensures c.put_button-at.auto.area
+loop-i-preserved c = (
+  c.put_button-at.ensures.same_ring ∙ c.loop-i.invariant.0,
+  buttons_go_on c.args.first.ring c.args.first.index (events_of c.args.packet.now) c.args.area.now c.loop-i.i c.loop-i.invariant.1
+      (rw (counted c.args.packet.now) c.loop-i-test.true)
+      (c.decode.ensures ∙ sym (event_of_lem c.args.packet.now c.loop-i.i c.loop-i-test.true))
+      (rw c.loop-i.invariant.0 at c.put_button-at.ensures.put) c.put_button-at.auto.area,
+)
 
 pub returns : goal.returns
-returns c = buttons_end c.args.ring c.args.index (events_of c.args.packet.now) c.args.area.now c.loop-i.i c.loop-i.invariant
-    (rw (counted c.args.packet.now) c.loop-i-test.false)
+returns c = record {
+  same_ring = c.loop-i.invariant.0;
+  put = buttons_end c.args.first.ring c.args.first.index (events_of c.args.packet.now) c.args.area.now c.loop-i.i c.loop-i.invariant.1
+      (rw (counted c.args.packet.now) c.loop-i-test.false);
+}
