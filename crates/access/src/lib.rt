@@ -1,15 +1,17 @@
 // What stands at each offset of the BAR, and which accesses are refused.
 #![tactic(auto)]
 
-ghost use Rattle.std.specs.Prelude.{◌≡◌};
+ghost use Rattle.std.specs.Prelude.{◌≡◌, true, false, IfOk};
+ghost use Rattle.answers.specs.Refusal.{answer_of};
 ghost use Rattle.answers.specs.Refusals.{first_refusal};
 ghost use Rattle.access.specs.Place.{registers, place_in, place_of, is_read_only, is_nothing};
 ghost use Rattle.access.specs.Access.{access_refusals};
 
-use answers::{BAD_ACCESS, DONE, INVALID, NO_REGISTER, READ_ONLY};
-use geometry::Geometry;
+use answers::Refusal;
+use geometry::{Geometry, Layout};
 
-// What stands at an offset of the BAR.
+// What stands at an offset of the BAR. Kept: `Nothing` is a place like the others, as the definition has it (`place_in`), and an offset and
+// a width go side by side, as `thayarqo_read` and `thayarqo_write` are given them.
 #[derive(Clone, Copy)]
 pub enum Place {
     Magic,
@@ -30,6 +32,7 @@ pub enum Place {
 // Where the event area begins.
 pub const AREA_OFFSET: u64 = 0x1000;
 
+#[tactic(auto, unfolding(crate::specs::Place::place_in))]
 fn register_at(offset: u64) -> Place
     ensures { result ≡ place_in registers offset }
 {
@@ -47,86 +50,70 @@ fn register_at(offset: u64) -> Place
     }
 }
 
-pub fn place_of(geometry: Geometry, offset: u64) -> Place
-    ensures { result ≡ place_of geometry offset }
-{
-    if offset < AREA_OFFSET {
-        return register_at(offset);
+impl Place {
+    #[tactic(auto, unfolding(crate::specs::Place::place_of))]
+    pub fn at(geometry: Geometry, offset: u64) -> Place
+        ensures { result ≡ place_of geometry offset }
+    {
+        if offset < AREA_OFFSET {
+            register_at(offset)
+        } else if offset == AREA_OFFSET {
+            Place::ReadPtr
+        } else if offset < AREA_OFFSET + geometry.area_length() as u64 {
+            Place::EventArea
+        } else {
+            Place::EntryPage
+        }
     }
-    if offset == AREA_OFFSET {
-        return Place::ReadPtr;
-    }
-    if offset < AREA_OFFSET + geometry::area_length(geometry) as u64 {
-        return Place::EventArea;
-    }
-    Place::EntryPage
-}
 
-fn is_nothing(place: Place) -> bool
-    ensures { result ≡ is_nothing place }
-{
-    match place {
-        Place::Magic => false,
-        Place::Rev => false,
-        Place::Control => false,
-        Place::EventSize => false,
-        Place::Npages => false,
-        Place::Acceleration => false,
-        Place::Isr => false,
-        Place::ConfSize => false,
-        Place::ClientRev => false,
-        Place::ReadPtr => false,
-        Place::EventArea => false,
-        Place::EntryPage => false,
-        Place::Nothing => true,
+    fn is_nothing(self) -> bool
+        ensures { result ≡ is_nothing self }
+    {
+        matches!(self, Place::Nothing)
     }
-}
 
-fn is_read_only(place: Place) -> bool
-    ensures { result ≡ is_read_only place }
-{
-    match place {
-        Place::Magic => true,
-        Place::Rev => true,
-        Place::Control => false,
-        Place::EventSize => true,
-        Place::Npages => true,
-        Place::Acceleration => false,
-        Place::Isr => false,
-        Place::ConfSize => true,
-        Place::ClientRev => false,
-        Place::ReadPtr => false,
-        Place::EventArea => true,
-        Place::EntryPage => true,
-        Place::Nothing => false,
+    fn is_read_only(self) -> bool
+        ensures { result ≡ is_read_only self }
+    {
+        matches!(
+            self,
+            Place::Magic
+                | Place::Rev
+                | Place::EventSize
+                | Place::Npages
+                | Place::ConfSize
+                | Place::EventArea
+                | Place::EntryPage
+        )
     }
 }
 
-// `valid` says that the geometry, the lent lengths and the state are right.
-pub fn access_refusal(valid: bool, geometry: Geometry, writes: bool, offset: u64, width: u32) -> u8
-    ensures { result ≡ first_refusal (access_refusals valid geometry writes offset width) }
+// The place that a read of a call that is right is granted.
+#[tactic(auto, unfolding(answers::specs::Refusals::first_refusal))]
+pub fn place_read(layout: Layout, offset: u64, width: u32) -> Result<Place, Refusal>
+    ensures tested { answer_of result ≡ first_refusal (access_refusals true layout.geometry false offset width) }
+    ensures granted { IfOk result (λ place. place ≡ place_of layout.geometry offset) }
 {
-    if !valid {
-        return INVALID;
+    if width != 4 || offset % 4 != 0 || offset >= layout.geometry.bar_length() {
+        return Err(Refusal::BadAccess);
     }
-    if width != 4 {
-        return BAD_ACCESS;
+    let place = Place::at(layout.geometry, offset);
+    if place.is_nothing() {
+        Err(Refusal::NoRegister)
+    } else {
+        Ok(place)
     }
-    if offset % 4 != 0 {
-        return BAD_ACCESS;
+}
+
+// The place that a write is granted.
+pub fn place_written(layout: Layout, offset: u64, width: u32) -> Result<Place, Refusal>
+    ensures tested { answer_of result ≡ first_refusal (access_refusals true layout.geometry true offset width) }
+    ensures granted { IfOk result (λ place. place ≡ place_of layout.geometry offset) }
+{
+    let place = place_read(layout, offset, width)?;
+    if place.is_read_only() {
+        Err(Refusal::ReadOnly)
+    } else {
+        Ok(place)
     }
-    if offset >= geometry::bar_length(geometry) {
-        return BAD_ACCESS;
-    }
-    let place = place_of(geometry, offset);
-    if is_nothing(place) {
-        return NO_REGISTER;
-    }
-    if !writes {
-        return DONE;
-    }
-    if is_read_only(place) {
-        return READ_ONLY;
-    }
-    DONE
 }

@@ -1,7 +1,11 @@
 -- What a call of the device leaves.
 use Rattle.std.specs.Prelude.{ℕ, List}
 use Rattle.device.specs.declared.Device.{Device}
-use Rattle.device.specs.declared.Outcome.{Outcome}
+
+-- Its answer, and the state after it.
+pub record Outcome : Type 0 where
+  pub answer : ℕ
+  pub device : Device
 
 abbrev pub outcome_of : ℕ → Device → Outcome
 outcome_of answer device = record { answer = answer; device = device }

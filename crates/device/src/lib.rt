@@ -1,20 +1,15 @@
 // The device's state, and the rules that every state passed in must keep.
 #![tactic(auto)]
 
+mod call;
 mod client_rev;
+mod room;
 mod state;
 
-ghost use Rattle.std.specs.Prelude.{◌≡◌, ◌<◌, length};
-ghost use Rattle.records.specs.Ring.{Holds};
-ghost use Rattle.device.specs.Call.{is_valid_pages, is_valid_bounds, is_valid_call};
-ghost use Rattle.device.specs.Room.{room_refusal};
-ghost use Rattle.device.specs.Result.{outcome_of};
-
-use answers::{BAD_INDEX, DONE, NO_ROOM};
-pub use client_rev::{is_revision1, may_run, revision_of};
-use geometry::{Geometry, Ring};
+use answers::Refusal;
 use revision1_records::Position;
-pub use state::{fresh, fresh_producer, is_acceleration, is_taken, keeps_rules};
+pub use room::check_room;
+pub use state::is_acceleration;
 
 // What the registers remember.
 #[repr(C)]
@@ -25,7 +20,7 @@ pub struct Registers {
     // CONTROL, bit 1.
     pub interrupts: bool,
     pub isr: bool,
-    // CLIENT_REV was written while off.
+    // CLIENT_REV was written while off. No Option of a number: `thayarqo_fresh_device` and all other calls lay the two out for C.
     pub client_rev_written: bool,
     pub client_rev: u16,
     // In tenths. It is kept where it is hidden, too.
@@ -45,7 +40,8 @@ pub enum Revision {
 pub struct Producer {
     // The private write index. WRITE_PTR in the area is a copy for the guest.
     pub write_index: u32,
-    // The slot of the last packet that was put in revision 2; none after a switch-on, and after a remove of that slot.
+    // The slot of the last packet that was put in revision 2; none after a switch-on, and after a remove of that slot. None is
+    // a number too, and no Option: C knows it as THAYARQO_NO_SLOT.
     pub current_slot: u32,
     // The position of the last ABSOLUTE record, in revision 1; (0, 0) after a switch-on.
     pub position: Position,
@@ -62,81 +58,9 @@ pub struct Device {
     pub taken: u64,
 }
 
-// What a rule answers, and the state after it.
-#[repr(C)]
+// What a rule answers, and the state after it. Kept: the four rules take the state by value and give it back, a form asked for by place.
 #[derive(Clone, Copy)]
 pub struct Outcome {
-    pub answer: u8,
+    pub answer: Result<(), Refusal>,
     pub device: Device,
-}
-
-pub fn answered(answer: u8, device: Device) -> Outcome
-    ensures { result ≡ outcome_of answer device }
-{
-    Outcome {
-        answer: answer,
-        device: device,
-    }
-}
-
-fn is_valid_pages(geometry: Geometry, area_size: usize, page_size: usize) -> bool
-    ensures { result ≡ is_valid_pages geometry area_size page_size }
-{
-    if !geometry::is_allowed(geometry) {
-        return false;
-    }
-    if area_size != geometry::area_length(geometry) {
-        return false;
-    }
-    page_size == geometry::PAGE_LENGTH
-}
-
-// All that the geometry bounds. It takes numbers alone, so that the state isn't copied for it.
-pub fn is_valid_bounds(
-    geometry: Geometry,
-    area_size: usize,
-    page_size: usize,
-    write_index: u32,
-    taken: u64,
-) -> bool
-    ensures { result ≡ is_valid_bounds geometry area_size page_size write_index taken }
-{
-    if !is_valid_pages(geometry, area_size, page_size) {
-        return false;
-    }
-    let ring = geometry::ring_of(geometry);
-    if write_index >= ring.length {
-        return false;
-    }
-    geometry::has_slots(geometry, bits::length(taken))
-}
-
-// Whether a call's geometry, lent lengths and state are right.
-pub fn is_valid_call(geometry: Geometry, device: Device, area_size: usize, page_size: usize) -> bool
-    ensures { result ≡ is_valid_call geometry device area_size page_size }
-{
-    let index = device.producer.write_index;
-    let taken = device.taken;
-    if !is_valid_bounds(geometry, area_size, page_size, index, taken) {
-        return false;
-    }
-    keeps_rules(device)
-}
-
-// READ_PTR is fetched once: what was tested is what the room is counted from.
-pub fn room_refusal(ring: Ring, area: &[u8], index: u32, count: u32) -> u8
-    requires { (Holds (length area.now) ring) × (index < ring.length) }
-    ensures { result ≡ room_refusal ring area.now index count }
-{
-    if count == 0 {
-        return DONE;
-    }
-    let read = records::read_pointer(area);
-    if read >= ring.length {
-        return BAD_INDEX;
-    }
-    if !records::has_room(ring, read, index, count) {
-        return NO_ROOM;
-    }
-    DONE
 }

@@ -7,92 +7,71 @@ use crate::{Device, Producer, Registers};
 use records::codes::NO_SLOT;
 use revision1_records::Position;
 
-fn fresh_registers() -> Registers
-    ensures { result ≡ fresh_registers }
-{
-    Registers {
-        on: false,
-        interrupts: false,
-        isr: false,
-        client_rev_written: false,
-        client_rev: 0,
-        acceleration: 10,
-    }
-}
-
-pub fn fresh_producer() -> Producer
-    ensures { result ≡ fresh_producer }
-{
-    let position = Position { x: 0, y: 0 };
-    Producer {
-        write_index: 0,
-        current_slot: NO_SLOT,
-        position: position,
-        lost: false,
-    }
-}
-
-pub fn fresh() -> Device
-    ensures { result ≡ fresh_device }
-{
-    let registers = fresh_registers();
-    let producer = fresh_producer();
-    Device {
-        registers: registers,
-        producer: producer,
-        taken: 0,
-    }
-}
-
-pub fn is_taken(taken: u64, slot: u32) -> bool
-    ensures { result ≡ is_taken taken slot }
-{
-    bits::is_set(taken, slot)
-}
-
 pub fn is_acceleration(value: u32) -> bool
     ensures { result ≡ is_acceleration value }
 {
-    if value < 1 {
-        return false;
-    }
-    value <= 20
+    (1..=20).contains(&value)
 }
 
-// 0 is unset, or a number that was rejected.
-fn keeps_client_rev_rule(registers: Registers) -> bool
-    ensures { result ≡ client_rev_rule registers }
-{
-    if registers.client_rev > 2 {
-        return false;
+impl Registers {
+    fn fresh() -> Registers
+        ensures { result ≡ fresh_registers }
+    {
+        Registers {
+            on: false,
+            interrupts: false,
+            isr: false,
+            client_rev_written: false,
+            client_rev: 0,
+            acceleration: 10,
+        }
     }
-    if registers.client_rev != 0 {
-        return registers.client_rev_written;
-    }
-    if !registers.on {
-        return true;
-    }
-    !registers.client_rev_written
 }
 
-fn keeps_current_rule(taken: u64, slot: u32) -> bool
-    ensures { result ≡ current_rule taken slot }
-{
-    if slot == NO_SLOT {
-        return true;
+impl Producer {
+    pub fn fresh() -> Producer
+        ensures { result ≡ fresh_producer }
+    {
+        Producer {
+            write_index: 0,
+            current_slot: NO_SLOT,
+            position: Position { x: 0, y: 0 },
+            lost: false,
+        }
     }
-    is_taken(taken, slot)
 }
 
-pub fn keeps_rules(device: Device) -> bool
-    ensures { result ≡ (client_rev_rule device.registers && (acceleration_rule device.registers
-        && current_rule device.taken device.producer.current_slot)) }
-{
-    if !keeps_client_rev_rule(device.registers) {
-        return false;
+impl Device {
+    pub fn fresh() -> Device
+        ensures { result ≡ fresh_device }
+    {
+        Device {
+            registers: Registers::fresh(),
+            producer: Producer::fresh(),
+            taken: 0,
+        }
     }
-    if !is_acceleration(device.registers.acceleration as u32) {
-        return false;
+
+    pub fn is_taken(&self, slot: u32) -> bool
+        ensures { result ≡ is_taken self.now.taken slot }
+    {
+        bits::is_set(self.taken, slot)
     }
-    keeps_current_rule(device.taken, device.producer.current_slot)
+
+    #[tactic(auto, unfolding(crate::specs::State::current_rule))]
+    fn keeps_current_rule(&self) -> bool
+        ensures { result ≡ current_rule self.now.taken self.now.producer.current_slot }
+    {
+        let slot = self.producer.current_slot;
+        slot == NO_SLOT || self.is_taken(slot)
+    }
+
+    pub fn keeps_rules(&self) -> bool
+        ensures { result ≡ (client_rev_rule self.now.registers && (acceleration_rule self.now.registers
+            && current_rule self.now.taken self.now.producer.current_slot)) }
+    {
+        self.registers.keeps_client_rev_rule()
+            && is_acceleration(self.registers.acceleration as u32)
+            && self.keeps_current_rule()
+    }
 }

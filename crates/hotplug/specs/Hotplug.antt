@@ -7,7 +7,7 @@ use Rattle.records.specs.declared.Event.{Event}
 use Rattle.records.specs.Put.{put_records, index_after}
 use Rattle.device.specs.declared.Registers.{Registers}
 use Rattle.device.specs.declared.Device.{Device}
-use Rattle.device.specs.declared.Outcome.{Outcome}
+use Rattle.device.specs.Result.{Outcome}
 use Rattle.device.specs.Revision.{is_revision2}
 use Rattle.device.specs.Setters.{with_write_index}
 use Rattle.device.specs.Result.{outcome_of}

@@ -15,8 +15,5 @@ pub use remove::remove_rule;
 pub(crate) fn tells(registers: Registers) -> bool
     ensures { result ≡ spec.tells registers }
 {
-    if !registers.on {
-        return false;
-    }
-    registers.client_rev == 2
+    registers.on && registers.client_rev == 2
 }

@@ -1,60 +1,80 @@
 // A device removed from its slot.
-ghost use Rattle.std.specs.Prelude.{◌≡◌};
+ghost use Rattle.std.specs.Prelude.{◌≡◌, IfOk};
+ghost use Rattle.answers.specs.Refusal.{answer_of};
 ghost use Rattle.hotplug.specs.Remove.{current_without, remove_answer, remove_of};
 
 use crate::tells;
-use answers::{BAD_SLOT, DONE, INVALID};
-use device::{Device, Outcome, answered};
-use geometry::Geometry;
+use answers::Refusal;
+use device::{Device, Outcome};
+use geometry::{Geometry, Slot};
 use records::codes::{DEV_RESET, NO_SLOT, dev_record};
 
-fn remove_refusal(geometry: Geometry, device: Device, area: &[u8], page: &[u8], slot: u32) -> u8
-    ensures { result ≡ remove_answer geometry device area.now page.now slot }
+// The slot that may be freed. A taken slot is in range.
+#[tactic(auto, unfolding(crate::specs::Remove::remove_answer, answers::specs::Refusals::first_refusal))]
+fn taken_slot(
+    device: &Device,
+    geometry: Geometry,
+    area: &[u8],
+    page: &[u8],
+    slot: u32,
+) -> Result<Slot, Refusal>
+    ensures tested { answer_of result ≡ remove_answer geometry device.now area.now page.now slot }
+    ensures same { IfOk result (λ taken. (taken.layout.geometry ≡ geometry) × (taken.number ≡ slot)) }
 {
-    if !device::is_valid_call(geometry, device, area.len(), page.len()) {
-        return INVALID;
-    }
-    if !device::is_taken(device.taken, slot) {
-        return BAD_SLOT;
+    let layout = device
+        .valid_call(geometry, area.len(), page.len())
+        .ok_or(Refusal::Invalid)?;
+    if !device.is_taken(slot) {
+        return Err(Refusal::BadSlot);
     }
     let needed = bits::bit_of(tells(device.registers));
-    let index = device.producer.write_index;
-    device::room_refusal(geometry::ring_of(geometry), area, index, needed)
+    device::check_room(device.write_place(layout), area, needed)?;
+    Ok(Slot {
+        layout,
+        number: slot,
+    })
 }
 
 fn current_without(current: u32, slot: u32) -> u32
     ensures { result ≡ current_without current slot }
 {
-    if current == slot {
-        return NO_SLOT;
-    }
-    current
+    if current == slot { NO_SLOT } else { current }
 }
 
 // Zeroes the slot's entry, and tells the guest.
+fn remove(
+    device: &mut Device,
+    geometry: Geometry,
+    area: &mut [u8],
+    page: &mut [u8],
+    slot: u32,
+) -> Result<(), Refusal>
+    ensures { let removed = remove_of geometry device.old area.old page.old slot in
+        (answer_of result ≡ removed.outcome.answer) × (device.new ≡ removed.outcome.device)
+        × (area.new ≡ removed.area) × (page.new ≡ removed.page) }
+{
+    let taken = taken_slot(&*device, geometry, &area[..], &page[..], slot)?;
+    entries::clear_entry(taken, page);
+    let told = tells(device.registers);
+    let write = device.write_place(taken.layout);
+    let next = write.put_if(area, told, dev_record(DEV_RESET, slot));
+    device.producer.write_index = next.index;
+    device.producer.current_slot = current_without(device.producer.current_slot, slot);
+    device.taken = bits::clear(device.taken, slot);
+    Ok(())
+}
+
 pub fn remove_rule(
-    device: Device,
+    mut device: Device,
     geometry: Geometry,
     area: &mut [u8],
     page: &mut [u8],
     slot: u32,
 ) -> Outcome
     ensures { let removed = remove_of geometry device area.old page.old slot in
-        (result ≡ removed.outcome) × ((area.new ≡ removed.area) × (page.new ≡ removed.page)) }
+        (answer_of result.answer ≡ removed.outcome.answer) × (result.device ≡ removed.outcome.device)
+        × (area.new ≡ removed.area) × (page.new ≡ removed.page) }
 {
-    let refusal = remove_refusal(geometry, device, &area[..], &page[..], slot);
-    if refusal != DONE {
-        return answered(refusal, device);
-    }
-    entries::clear_entry(geometry, page, slot);
-    let ring = geometry::ring_of(geometry);
-    let index = device.producer.write_index;
-    let told = tells(device.registers);
-    let next = records::put_if(ring, area, index, told, dev_record(DEV_RESET, slot));
-    let current = current_without(device.producer.current_slot, slot);
-    let mut after = device;
-    after.producer.write_index = next;
-    after.producer.current_slot = current;
-    after.taken = bits::clear(device.taken, slot);
-    answered(DONE, after)
+    let answer = remove(&mut device, geometry, area, page, slot);
+    Outcome { answer, device }
 }

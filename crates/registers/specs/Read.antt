@@ -1,7 +1,9 @@
 -- What a read gives (01, "Registers"; 02, E1). A refused read gives value 0.
-use Rattle.std.specs.Prelude.{ℕ, ◌+◌, ◌-◌, ◌*◌, false, cond, List, eqb, length}
+use Rattle.std.specs.Prelude.{ℕ, ◌+◌, ◌-◌, ◌*◌, false, cond, List, eqb, length, Result, Ok, Err}
 use Rattle.words.specs.Words.{u32_at}
+use Rattle.answers.specs.declared.Refusal.{Refusal}
 use Rattle.answers.specs.Answers.{done}
+use Rattle.answers.specs.Refusal.{number_of}
 use Rattle.bits.specs.Bits.{bit_of}
 use Rattle.geometry.specs.declared.Geometry.{Geometry}
 use Rattle.geometry.specs.Geometry.{area_length}
@@ -30,6 +32,11 @@ value_of geometry device area page offset ReadPtr = u32_at area 0
 value_of geometry device area page offset EventArea = u32_at area (offset - 0x1000)
 value_of geometry device area page offset EntryPage = u32_at page (offset - (0x1000 + area_length geometry))
 value_of geometry device area page offset Nothing = 0
+
+-- A read by what it came to, as C is told of it.
+abbrev pub told : Result ℕ Refusal → Value
+told (Ok value) = record { answer = done; value = value }
+told (Err refusal) = record { answer = number_of refusal; value = 0 }
 
 unfoldable pub read_of : Geometry → Device → List ℕ → List ℕ → ℕ → ℕ → Value
 read_of geometry device area page offset width =

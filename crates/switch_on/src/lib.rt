@@ -1,27 +1,27 @@
 // The device switched on: the ring starts anew, in revision 2 with a record for each taken slot.
 #![tactic(auto)]
 
-ghost use Rattle.std.specs.Prelude.{◌≡◌, true, cond, [], ◌∷◌, map, ◌≤◌, ◌<◌, length};
-ghost use Rattle.bits.specs.Bits.{bit};
-ghost use Rattle.geometry.specs.Geometry.{allowed, ring_of};
+ghost use Rattle.std.specs.Prelude.{◌≡◌, map, ◌≤◌, length};
+ghost use Rattle.answers.specs.Refusal.{answer_of};
+ghost use Rattle.geometry.specs.Geometry.{ring_of};
 ghost use Rattle.records.specs.Codes.{dev_conf, dev_record};
 ghost use Rattle.records.specs.Ring.{Holds};
-ghost use Rattle.records.specs.Put.{Put};
-ghost use Rattle.switch_on.specs.SwitchOn.{taken_from, records_at_start, cleared_pointers, switched_on, switch_on};
+ghost use Rattle.records.specs.Index.{PutFrom};
+ghost use Rattle.switch_on.specs.SwitchOn.{taken_from, records_at_start, cleared_pointers, switch_on};
 
-use answers::{DONE, NO_ROOM};
-use device::{Device, Outcome, Revision};
-use geometry::{Geometry, Ring};
+use answers::Refusal;
+use device::{Device, Producer, Revision};
+use geometry::Layout;
+use records::RingIndex;
 use records::codes::{ALL_SLOTS, DEV_CONF, DEV_RESET, dev_record};
 
+// Kept: the taken slots and how many slots there are go side by side here alone, from one call that knows both.
 fn taken_count(taken: u64, slots: u32) -> u32
     ensures { result ≡ length (taken_from taken 0 slots) }
 {
     let mut count: u32 = 0;
-    let mut slot: u32 = 0;
-    while slot < slots {
+    for slot in 0..slots {
         count += bits::bit_of(bits::is_set(taken, slot));
-        slot += 1;
     }
     count
 }
@@ -45,74 +45,62 @@ fn clear_pointers(area: &mut [u8])
     records::set_write_pointer(area, 0);
 }
 
-fn put_slot(ring: Ring, area: &mut [u8], index: u32, taken: u64, slot: u32) -> u32
-    requires { (Holds (length area.old) ring) × (index < ring.length) }
-    ensures { Put ring index (cond (bit taken slot) (dev_record dev_conf slot ∷ []) []) area.old area.new result }
+fn put_slots(first: RingIndex, area: &mut [u8], taken: u64, slots: u32) -> RingIndex
+    requires { Holds (length area.old) first.ring }
+    ensures { PutFrom first (map (dev_record dev_conf) (taken_from taken 0 slots)) area.old area.new result }
 {
-    if !bits::is_set(taken, slot) {
-        return index;
-    }
-    records::put_record(ring, area, index, dev_record(DEV_CONF, slot))
-}
-
-fn put_slots(ring: Ring, area: &mut [u8], index: u32, taken: u64, slots: u32) -> u32
-    requires { (Holds (length area.old) ring) × (index < ring.length) }
-    ensures { Put ring index (map (dev_record dev_conf) (taken_from taken 0 slots)) area.old area.new result }
-{
-    let mut at = index;
-    let mut slot: u32 = 0;
-    while slot < slots {
-        at = put_slot(ring, area, at, taken, slot);
-        slot += 1;
+    let mut at = first;
+    for slot in 0..slots {
+        at = at.put_if(area, bits::is_set(taken, slot), dev_record(DEV_CONF, slot));
     }
     at
 }
 
-fn put_start(ring: Ring, area: &mut [u8], revision: Revision, taken: u64, slots: u32) -> u32
-    requires { (Holds (length area.old) ring) × (0 < ring.length) }
-    ensures { Put ring 0 (records_at_start revision taken slots) area.old area.new result }
+// Puts the records that the ring begins with.
+fn put_start(
+    first: RingIndex,
+    area: &mut [u8],
+    revision: Revision,
+    taken: u64,
+    slots: u32,
+) -> RingIndex
+    requires { Holds (length area.old) first.ring }
+    ensures { PutFrom first (records_at_start revision taken slots) area.old area.new result }
 {
     match revision {
-        Revision::One => 0,
+        Revision::One => first,
         Revision::Two => {
-            let first = records::put_record(ring, area, 0, dev_record(DEV_RESET, ALL_SLOTS));
-            put_slots(ring, area, first, taken, slots)
+            let next = first.put(area, dev_record(DEV_RESET, ALL_SLOTS));
+            put_slots(next, area, taken, slots)
         }
     }
 }
 
-fn switched(device: Device, interrupts: bool, index: u32) -> Device
-    ensures { result ≡ switched_on interrupts index device }
+pub fn start(
+    device: &mut Device,
+    layout: Layout,
+    area: &mut [u8],
+    interrupts: bool,
+) -> Result<(), Refusal>
+    requires { Holds (length area.old) (ring_of layout.geometry) }
+    ensures { let started = switch_on layout.geometry device.old area.old interrupts in
+        (answer_of result ≡ started.outcome.answer) × (device.new ≡ started.outcome.device) × (area.new ≡ started.area) }
 {
-    let producer = device::fresh_producer();
-    let mut after = device;
-    after.registers.on = true;
-    after.registers.interrupts = interrupts;
-    after.producer = producer;
-    after.producer.write_index = index;
-    after
-}
-
-pub fn start(geometry: Geometry, device: Device, area: &mut [u8], interrupts: bool) -> Outcome
-    requires { (allowed geometry ≡ true) × (Holds (length area.old) (ring_of geometry)) }
-    ensures { let started = switch_on geometry device area.old interrupts in
-        (result ≡ started.outcome) × (area.new ≡ started.area) }
-{
-    let ring = geometry::ring_of(geometry);
-    let slots = geometry::slot_count(geometry);
-    let revision = device::revision_of(device.registers);
+    let ring = layout.ring();
+    let slots = layout.slot_count();
+    let revision = device.registers.revision();
     let count = start_count(revision, device.taken, slots);
     if count > ring.length - 1 {
-        return Outcome {
-            answer: NO_ROOM,
-            device: device,
-        };
+        return Err(Refusal::NoRoom);
     }
     clear_pointers(area);
-    let index = put_start(ring, area, revision, device.taken, slots);
-    let after = switched(device, interrupts, index);
-    Outcome {
-        answer: DONE,
-        device: after,
-    }
+    let first = RingIndex { ring, index: 0 };
+    let next = put_start(first, area, revision, device.taken, slots);
+    device.registers.on = true;
+    device.registers.interrupts = interrupts;
+    device.producer = Producer {
+        write_index: next.index,
+        ..Producer::fresh()
+    };
+    Ok(())
 }

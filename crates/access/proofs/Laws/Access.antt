@@ -1,31 +1,58 @@
 -- What is known of an access that is not refused.
 use Prim.Native.Nat.{ℕ, ◌+◌, ◌-◌, ◌%◌, ◌≤◌, ◌<◌}
-use mathlib.Core.Path.{◌≡◌, ap, ◌∙◌}
-use mathlib.Core.Bool.{Bool}
+use mathlib.Core.Path.{◌≡◌, refl}
+use mathlib.Core.Bool.{Bool, true, false, not, cond}
+use mathlib.Core.List.{[], ◌∷◌}
 use native.Mathlib.Omega.{arith}
+use lib.Dec.{leb, eqb}
 use borrow.Author.Tests.{leb-false, eqb-true, not-false}
+use Rattle.answers.specs.Answers.{done, bad_access, read_only, no_register}
 use Rattle.answers.specs.Refusals.{first_refusal}
 use Rattle.answers.proofs.Laws.{none_holds}
 use Rattle.geometry.specs.declared.Geometry.{Geometry}
 use Rattle.geometry.specs.Geometry.{area_length, bar_length, ring_of}
 use Rattle.records.proofs.Laws.Place.{pointers_inside}
 use Rattle.device.specs.declared.Device.{Device}
-use Rattle.device.specs.Call.{is_valid_call}
 use Rattle.device.proofs.Laws.Call.{Call, call}
 use Rattle.access.specs.declared.Place.TheVariants.{EventArea, EntryPage}
-use Rattle.access.specs.Place.{place_of}
+use Rattle.access.specs.Place.{place_of, is_read_only, is_nothing}
 use Rattle.access.specs.Access.{access_refusals, access_answer}
 use Rattle.access.proofs.Laws.Place.{area_begins, area_ends, page_begins}
 
--- what an access is judged by
-pub judged : (geometry : Geometry) (device : Device) (area_size page_size : ℕ) (writes : Bool) (offset width : ℕ)
-    {called : Bool} {answer : ℕ}
-    → answer ≡ first_refusal (access_refusals called geometry writes offset width)
-    → called ≡ is_valid_call geometry device area_size page_size
-    → answer ≡ access_answer geometry device area_size page_size writes offset width
-unfolding access_answer
-judged geometry device area_size page_size writes offset width first called =
-    first ∙ ap (λ (test : Bool). first_refusal (access_refusals test geometry writes offset width)) called
+-- What a read is refused with a write is refused with, too; where a read is granted the place decides.
+module _ (geometry : Geometry) (offset width : ℕ) where
+  pub also_refused : {number : ℕ} → number ≡ first_refusal (access_refusals true geometry false offset width) → (number ≡ 0 → ⊥)
+      → number ≡ first_refusal (access_refusals true geometry true offset width)
+  unfolding first_refusal
+  also_refused {number} h some =
+      go (eqb width 4) (eqb (offset % 4) 0) (leb (bar_length geometry) offset) (is_nothing (place_of geometry offset)) _ h
+    where
+      go : (wide aligned past none kept : Bool)
+          → number ≡ first_refusal ((not wide, bad_access) ∷ (not aligned, bad_access) ∷ (past, bad_access) ∷ (none, no_register) ∷ [])
+          → number ≡ first_refusal ((not wide, bad_access) ∷ (not aligned, bad_access) ∷ (past, bad_access) ∷ (none, no_register)
+          ∷ (kept, read_only) ∷ [])
+      go false aligned past none kept e = e
+      go true false past none kept e = e
+      go true true true none kept e = e
+      go true true false true kept e = e
+      go true true false false kept e = absurd (some e)
+
+  -- a write that no other test refuses is refused where its place is read-only
+  pub written_by_place : first_refusal (access_refusals true geometry false offset width) ≡ 0
+      → first_refusal (access_refusals true geometry true offset width) ≡ cond (is_read_only (place_of geometry offset)) read_only done
+  unfolding first_refusal
+  written_by_place h =
+      go (eqb width 4) (eqb (offset % 4) 0) (leb (bar_length geometry) offset) (is_nothing (place_of geometry offset)) _ h
+    where
+      go : (wide aligned past none kept : Bool)
+          → first_refusal ((not wide, bad_access) ∷ (not aligned, bad_access) ∷ (past, bad_access) ∷ (none, no_register) ∷ []) ≡ 0
+          → first_refusal ((not wide, bad_access) ∷ (not aligned, bad_access) ∷ (past, bad_access) ∷ (none, no_register)
+          ∷ (kept, read_only) ∷ []) ≡ cond kept read_only done
+      go false aligned past none kept e = absurd (omega arith)
+      go true false past none kept e = absurd (omega arith)
+      go true true true none kept e = absurd (omega arith)
+      go true true false true kept e = absurd (omega arith)
+      go true true false false kept e = refl
 
 pub record Granted (geometry : Geometry) (device : Device) (area_size page_size offset width : ℕ) : Type 0 where
   pub is_call : Call geometry device area_size page_size

@@ -46,11 +46,6 @@ call_with geometry {area_size = area_size} {page_size} after c keeps =
     rw (c.is_allowed, eq-eqb area_size (area_length geometry) c.is_area_length, eq-eqb page_size 4096 c.is_page_length)
     (rules_hold geometry after keeps)
 
-pub pages_allowed : (geometry : Geometry) (area_size page_size : ℕ) → is_valid_pages geometry area_size page_size ≡ true
-    → allowed geometry ≡ true
-unfolding is_valid_pages
-pages_allowed geometry area_size page_size h = (both (allowed geometry) _ h).0
-
 -- the numbers that the geometry bounds first, then the rest of the state
 pub call_tests : (geometry : Geometry) (device : Device) (area_size page_size : ℕ)
     → (is_valid_bounds geometry area_size page_size device.producer.write_index device.taken

@@ -1,6 +1,6 @@
 -- The ways out of an add and of a remove, each with what it answers and what stands in the area and in the page.
 use Prim.Native.Nat.{ℕ}
-use mathlib.Core.Path.{◌≡◌, ◌∙◌}
+use mathlib.Core.Path.{◌≡◌, ap, ◌∙◌}
 use mathlib.Core.List.{List}
 use borrow.Author.Tests.{ne_eqb}
 use Rattle.bits.specs.Bits.{with_bit, without_bit}
@@ -9,7 +9,7 @@ use Rattle.geometry.specs.Geometry.{ring_of}
 use Rattle.records.specs.Put.{Put}
 use Rattle.entries.specs.Entry.{with_entry, without_entry}
 use Rattle.device.specs.declared.Device.{Device}
-use Rattle.device.specs.declared.Outcome.{Outcome}
+use Rattle.device.specs.Result.{Outcome}
 use Rattle.device.specs.Setters.{with_taken, with_write_index, with_current_slot}
 use Rattle.device.specs.Result.{outcome_of}
 use Rattle.hotplug.specs.Hotplug.{HotplugResult, unless_refused}
@@ -57,3 +57,9 @@ module _ (geometry : Geometry) (device : Device) (area page : List ℕ) (slot : 
       → Leaves (remove_of geometry device area page slot) outcome area' page'
   unfolding remove_of
   removed none put stored clear left o = (o ∙ rw (none, ← clear, ← left, put.ends), (rw none put.holds, rw none stored))
+
+-- the same of the answer and the state by themselves
+pub leaves : {result : HotplugResult} {answer : ℕ} {device : Device} {area page : List ℕ}
+    → Leaves result (outcome_of answer device) area page
+    → (answer ≡ result.outcome.answer) × (device ≡ result.outcome.device) × (area ≡ result.area) × (page ≡ result.page)
+leaves h = (ap (λ (outcome : Outcome). outcome.answer) h.0, ap (λ (outcome : Outcome). outcome.device) h.0, h.1.0, h.1.1)

@@ -11,7 +11,7 @@ use Rattle.geometry.specs.Geometry.{ring_of}
 use Rattle.records.specs.Packet.{events_of}
 use Rattle.records.specs.Put.{Put}
 use Rattle.device.specs.declared.Device.{Device}
-use Rattle.device.specs.declared.Outcome.{Outcome}
+use Rattle.device.specs.Result.{Outcome}
 use Rattle.device.specs.Revision.{revision_of}
 use Rattle.device.specs.Setters.{with_lost}
 use Rattle.device.specs.Room.{room_refusal}

@@ -20,7 +20,7 @@ use Rattle.entries.specs.Entry.{entry_at}
 use Rattle.packet_records.proofs.Laws.Put.{records_some}
 use Rattle.revision1_records.proofs.Laws.Count.{group_some}
 use Rattle.device.specs.declared.Device.{Device}
-use Rattle.device.specs.declared.Outcome.{Outcome}
+use Rattle.device.specs.Result.{Outcome}
 use Rattle.device.specs.declared.Revision.{Revision}
 use Rattle.device.specs.declared.Revision.TheVariants.{One, Two}
 use Rattle.device.specs.Revision.{revision_of}

@@ -4,7 +4,7 @@ use mathlib.Core.Path.{◌≡◌, refl, sym, ◌∙◌}
 use mathlib.Core.Bool.{Bool, true, false, cond}
 use mathlib.Core.List.{List, [], ◌∷◌, ◌++◌, map}
 use native.Mathlib.Omega.{arith}
-use native.Mathlib.Nat.{add-zero, zero-add, add_assoc, sub-zero}
+use native.Mathlib.Nat.{add-zero, add_assoc}
 use native.Mathlib.Numerals.{add-one}
 use lib.ListN.{length}
 use Rattle.bits.specs.Bits.{bit}
@@ -57,9 +57,6 @@ module _ (taken : ℕ) where
     pub sum : count + length (taken_from taken slot (slots - slot)) ≡ length (taken_from taken 0 slots)
 
   module _ (slots : ℕ) where
-    pub count_begins : Counted slots 0 0
-    count_begins = record { few = omega arith; sum = rw (sub-zero, zero-add) }
-
     module _ (count slot : ℕ) (counted : Counted slots count slot) where
       pub count_goes_on : slot < slots → {one : ℕ} → one ≡ bit_of (bit taken slot) → Counted slots (count + one) (slot + 1)
       count_goes_on h e =

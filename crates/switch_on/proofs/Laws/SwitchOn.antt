@@ -16,7 +16,7 @@ use Rattle.device.specs.declared.Device.{Device}
 use Rattle.device.specs.declared.Revision.{Revision}
 use Rattle.device.specs.declared.Revision.TheVariants as revision
 use Rattle.device.specs.Revision.{revision_of}
-use Rattle.device.specs.declared.Outcome.{Outcome}
+use Rattle.device.specs.Result.{Outcome}
 use Rattle.device.specs.Result.{Result}
 use Rattle.switch_on.specs.SwitchOn.{records_at_start, start_records, cleared_pointers, switched_on, started, switch_on}
 use Rattle.switch_on.proofs.Laws.Slots.{few_taken, slots_fit}

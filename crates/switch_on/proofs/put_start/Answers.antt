@@ -1,11 +1,9 @@
--- In revision 2 DEV_RESET leaves the ring ready for the slots' records (put_ready), and both together are the start's (put_next).
-use Rattle.records.proofs.Laws.PutAll.{put_none, put_one, put_next}
+-- In revision 2 the records are those of DEV_RESET and then those of the slots.
+use Rattle.records.proofs.Laws.PutFrom.{nothing_put, both_put}
 use Rattle.switch_on.proofs.put_start.Goals as goal
 
 pub returns-in-One : goal.returns-in-One
-returns-in-One c = rw c.in-One.is (put_none _ _ _)
+returns-in-One c = rw c.in-One.is (nothing_put _ _)
 
 pub returns-in-Two : goal.returns-in-Two
-returns-in-Two c = let first = rw c.dev_record.ensures at
-    (put_one c.args.ring 0 _ c.put_record-first.ensures.0 c.put_record-first.ensures.1) in
-    rw c.in-Two.is (put_next c.args.ring first c.put_slots.ensures)
+returns-in-Two c = rw c.in-Two.is (both_put (rw c.dev_record.ensures at c.put-next.ensures) c.put_slots.ensures)
