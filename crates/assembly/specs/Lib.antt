@@ -1,3 +1,4 @@
 pub mod Kind
+pub mod Told
 pub mod Transition
 pub mod Collect

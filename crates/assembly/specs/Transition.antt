@@ -6,9 +6,8 @@ use Rattle.records.specs.declared.Event.{Event}
 use Rattle.records.specs.Codes.{no_slot}
 use Rattle.records.specs.Event.{most_events}
 use Rattle.assembly.specs.declared.Driver.{Driver}
-use Rattle.assembly.specs.declared.Stepped.{Stepped}
-use Rattle.assembly.specs.declared.Told.{Told}
-use Rattle.assembly.specs.declared.Told.TheVariants as told
+use Rattle.assembly.specs.Told.{Told, Stepped}
+use Rattle.assembly.specs.Told as told
 use Rattle.assembly.specs.declared.Kind.{Kind}
 use Rattle.assembly.specs.declared.Kind.TheVariants as kind
 use Rattle.assembly.specs.Kind.{kind_of}

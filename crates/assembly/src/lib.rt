@@ -10,13 +10,13 @@ ghost use Rattle.assembly.specs.Transition.{fresh_driver};
 
 pub use packet::PACKET_LENGTH;
 use records::codes::NO_SLOT;
-pub use transition::receive;
 
 // The driver's state but for the events of the packet that it collects. These stand in a buffer of their own that the caller
 // lends, so that a step copies one event at most.
 #[repr(C)]
 #[derive(Clone, Copy)]
 pub struct Driver {
+    // A slot, or one of two numbers for none and unknown, which C knows by name. Kept: no enum goes to C.
     pub slot: u32,
     // How many events of the packet are collected.
     pub held: u32,
@@ -42,10 +42,10 @@ pub enum Kind {
     Other,
 }
 
-// What a step tells. A packet's events are the first `count` of the lent buffer.
+// What a step tells. A packet's events are the first `count` of the lent buffer. Kept: that there is nothing to tell is one of the eight
+// things that C is told by number (`thayarqo_step`).
 #[derive(Clone, Copy)]
 pub enum Told {
-    Refused(u8),
     Nothing,
     Gap,
     EmptyReport,
@@ -56,20 +56,16 @@ pub enum Told {
     ResetAll,
 }
 
-#[derive(Clone, Copy)]
-pub struct Stepped {
-    pub told: Told,
-    pub driver: Driver,
-}
-
-pub fn fresh() -> Driver
-    ensures { result ≡ fresh_driver }
-{
-    Driver {
-        slot: NO_SLOT,
-        held: 0,
-        overlong: false,
-        spoiled: false,
-        ignoring: false,
+impl Driver {
+    pub fn fresh() -> Driver
+        ensures { result ≡ fresh_driver }
+    {
+        Driver {
+            slot: NO_SLOT,
+            held: 0,
+            overlong: false,
+            spoiled: false,
+            ignoring: false,
+        }
     }
 }

@@ -1,104 +1,119 @@
 // What each kind of record does to the driver.
-ghost use Rattle.std.specs.Prelude.{◌≡◌, true, false, length};
-ghost use Rattle.geometry.specs.Geometry.{allowed};
-ghost use Rattle.assembly.specs.Collect.{packet_length, collected};
-ghost use Rattle.assembly.specs.Transition.{spoiled as spoiled_of, moved, ended, reported, without_slot, tells, receive as receive_of};
+ghost use Rattle.std.specs.Prelude.{◌≡◌, false};
+ghost use Rattle.assembly.specs.Told.{told_of};
+ghost use Rattle.assembly.specs.Collect.{collected};
+ghost use Rattle.assembly.specs.Transition.{spoiled as spoiled_of, moved, ended, reported, without_slot, receive as receive_of};
 
-use crate::classify::kind_of;
-use crate::packet::join;
-use crate::{Driver, Kind, Stepped, Told};
-use answers::MALFORMED;
-use geometry::Geometry;
+use crate::{Driver, Kind, PACKET_LENGTH, Told};
+use answers::Refusal;
+use geometry::Layout;
 use records::Event;
 use records::codes::NO_SLOT;
 
-// A packet already begun is spoiled.
-fn spoil(driver: Driver) -> Driver
-    ensures { result ≡ spoiled_of driver }
-{
-    if driver.held == 0 {
-        return driver;
+impl Driver {
+    // A packet already begun is spoiled.
+    #[tactic(auto, unfolding(crate::specs::Transition::spoiled))]
+    fn spoil(&mut self)
+        ensures { self.new ≡ spoiled_of self.old }
+    {
+        if self.held != 0 {
+            self.spoiled = true;
+        }
     }
-    let mut after = driver;
-    after.spoiled = true;
-    after
-}
 
-fn move_to(driver: Driver, slot: u32) -> Driver
-    ensures { result ≡ moved slot driver }
-{
-    let mut after = spoil(driver);
-    after.slot = slot;
-    after
-}
+    fn move_to(&mut self, slot: u32)
+        ensures { self.new ≡ moved slot self.old }
+    {
+        self.spoil();
+        self.slot = slot;
+    }
 
-fn end(driver: Driver, ignoring: bool) -> Driver
-    ensures { result ≡ ended ignoring driver }
-{
-    let mut after = driver;
-    after.held = 0;
-    after.overlong = false;
-    after.spoiled = false;
-    after.ignoring = ignoring;
-    after
-}
+    fn end(&mut self, ignoring: bool)
+        ensures { self.new ≡ ended ignoring self.old }
+    {
+        self.held = 0;
+        self.overlong = false;
+        self.spoiled = false;
+        self.ignoring = ignoring;
+    }
 
-fn report(driver: Driver) -> Told
-    ensures { result ≡ reported driver }
-{
-    if driver.ignoring {
-        return Told::Gap;
+    #[tactic(auto, unfolding(crate::specs::Transition::reported))]
+    fn report(&self) -> Result<Told, Refusal>
+        ensures { told_of result ≡ reported self.now }
+    {
+        if self.ignoring {
+            Ok(Told::Gap)
+        } else if self.spoiled || self.overlong {
+            Err(Refusal::Malformed)
+        } else if self.held == 0 {
+            Ok(Told::EmptyReport)
+        } else {
+            Ok(Told::Packet {
+                slot: self.slot,
+                count: self.held,
+            })
+        }
     }
-    if driver.spoiled {
-        return Told::Refused(MALFORMED);
-    }
-    if driver.overlong {
-        return Told::Refused(MALFORMED);
-    }
-    if driver.held == 0 {
-        return Told::EmptyReport;
-    }
-    Told::Packet {
-        slot: driver.slot,
-        count: driver.held,
-    }
-}
 
-fn leave(driver: Driver, slot: u32) -> Driver
-    ensures { result ≡ without_slot slot driver }
-{
-    if driver.slot == slot {
-        return move_to(driver, NO_SLOT);
+    // A report ends the packet that it tells.
+    fn end_reported(&mut self) -> Result<Told, Refusal>
+        ensures { (told_of result ≡ reported self.old) × (self.new ≡ ended false self.old) }
+    {
+        let told = self.report();
+        self.end(false);
+        told
     }
-    driver
-}
 
-fn tell(told: Told, driver: Driver) -> Stepped
-    ensures { result ≡ tells told driver }
-{
-    Stepped {
-        told: told,
-        driver: driver,
+    #[tactic(auto, unfolding(crate::specs::Transition::without_slot))]
+    fn leave(&mut self, slot: u32)
+        ensures { self.new ≡ without_slot slot self.old }
+    {
+        if self.slot == slot {
+            self.move_to(NO_SLOT);
+        }
     }
-}
 
-// One record. An event that joins the packet is written behind those that are held.
-pub fn receive(geometry: Geometry, driver: Driver, event: Event, packet: &mut [u8]) -> Stepped
-    requires { (allowed geometry ≡ true) × (length packet.old ≡ packet_length) }
-    ensures { let received = receive_of geometry event driver in
-        (result ≡ received) × (packet.new ≡ collected driver received.driver event packet.old) }
-{
-    let kind = kind_of(geometry, event);
-    let value = event.value;
-    match kind {
-        Kind::SynReport => tell(report(driver), end(driver, false)),
-        Kind::SynDropped => tell(Told::Nothing, end(driver, true)),
-        Kind::DevSet => tell(Told::Set(value), move_to(driver, value)),
-        Kind::DevConf => tell(Told::Conf(value), driver),
-        Kind::DevReset => tell(Told::Reset(value), leave(driver, value)),
-        Kind::DevResetAll => tell(Told::ResetAll, move_to(driver, NO_SLOT)),
-        Kind::BadDevSet => tell(Told::Refused(MALFORMED), move_to(driver, NO_SLOT)),
-        Kind::BadDev => tell(Told::Refused(MALFORMED), driver),
-        Kind::Other => tell(Told::Nothing, join(driver, event, packet)),
+    // One record. An event that joins the packet is written behind those that are held.
+    #[tactic(auto, using(crate::proofs::Laws::Collect::none_joins))]
+    pub fn receive(
+        &mut self,
+        layout: Layout,
+        event: Event,
+        packet: &mut [u8; PACKET_LENGTH],
+    ) -> Result<Told, Refusal>
+        ensures told { told_of result ≡ (receive_of layout.geometry event self.old).told }
+        ensures driver { self.new ≡ (receive_of layout.geometry event self.old).driver }
+        ensures packet { packet.new ≡ collected self.old (receive_of layout.geometry event self.old).driver event packet.old }
+    {
+        let slot = event.value;
+        match Kind::of(layout, event) {
+            Kind::SynReport => self.end_reported(),
+            Kind::SynDropped => {
+                self.end(true);
+                Ok(Told::Nothing)
+            }
+            Kind::DevSet => {
+                self.move_to(slot);
+                Ok(Told::Set(slot))
+            }
+            Kind::DevConf => Ok(Told::Conf(slot)),
+            Kind::DevReset => {
+                self.leave(slot);
+                Ok(Told::Reset(slot))
+            }
+            Kind::DevResetAll => {
+                self.move_to(NO_SLOT);
+                Ok(Told::ResetAll)
+            }
+            Kind::BadDevSet => {
+                self.move_to(NO_SLOT);
+                Err(Refusal::Malformed)
+            }
+            Kind::BadDev => Err(Refusal::Malformed),
+            Kind::Other => {
+                self.join(event, packet);
+                Ok(Told::Nothing)
+            }
+        }
     }
 }

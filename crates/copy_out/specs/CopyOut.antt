@@ -1,8 +1,11 @@
 -- Copy-out (01, "The driver's side"): the first 8 bytes of the oldest records, as many as the limit, the unread records and whole
 -- eights of the output allow. The read pointer moves past them.
 use Rattle.std.specs.Prelude.{ℕ, zero, suc, ◌+◌, ◌/◌, ◌%◌, min, Bool, not, cond, List, [], ◌∷◌, ◌++◌, eqb, length, take, drop}
+use Rattle.std.specs.Prelude.{Result, Ok, Err}
 use Rattle.copying.specs.Copying.{overwrite}
 use Rattle.answers.specs.Answers.{done, invalid}
+use Rattle.answers.specs.declared.Refusal.{Refusal}
+use Rattle.answers.specs.Refusal.{number_of}
 use Rattle.answers.specs.Refusals.{first_refusal}
 use Rattle.geometry.specs.declared.Geometry.{Geometry}
 use Rattle.geometry.specs.declared.Ring.{Ring}
@@ -34,6 +37,11 @@ copy_count geometry area limit out_length =
 
 abbrev pub refused_copy : ℕ → Copied
 refused_copy number = record { answer = number; count = 0 }
+
+-- What the code hands back, as a number and a count.
+abbrev pub copied_of : Result ℕ Refusal → Copied
+copied_of (Ok count) = record { answer = done; count = count }
+copied_of (Err refusal) = refused_copy (number_of refusal)
 
 -- What a call leaves: its answer and count, the event area, the output.
 pub record CopyResult : Type 0 where

@@ -5,10 +5,10 @@ use Rattle.geometry.specs.declared.Geometry.{Geometry}
 use Rattle.geometry.specs.Geometry.{ring_of}
 use Rattle.records.specs.Ring.{with_read_pointer, next_index}
 use Rattle.assembly.specs.declared.Driver.{Driver}
-use Rattle.assembly.specs.declared.Stepped.{Stepped}
-use Rattle.assembly.specs.declared.Told.TheVariants as told
-use Rattle.reading.specs.declared.Oldest.{Oldest}
-use Rattle.reading.specs.declared.Oldest.TheVariants as oldest
+use Rattle.assembly.specs.Told.{Stepped}
+use Rattle.assembly.specs.Told as told
+use Rattle.reading.specs.Oldest.{Oldest}
+use Rattle.reading.specs.Oldest as oldest
 use Rattle.records.specs.Codes.{no_slot, unknown_slot}
 use Rattle.records.specs.Event.{most_events}
 use Rattle.assembly.specs.Kind.{is_slot}

@@ -1,71 +1,50 @@
 // The guest's reader of the event area: one record a step.
 #![tactic(auto)]
 
-ghost use Rattle.std.specs.Prelude.{◌≡◌, true, length};
-ghost use Rattle.geometry.specs.Geometry.{allowed};
-ghost use Rattle.assembly.specs.Transition.{answer_of};
+ghost use Rattle.std.specs.Prelude.{◌≡◌};
+ghost use Rattle.answers.specs.Refusal.{answer_of};
+ghost use Rattle.assembly.specs.Told.{told_of};
 ghost use Rattle.driver.specs.Answer.{step_answer};
-ghost use Rattle.driver.specs.Step.{is_driver, is_valid_step, step_of};
+ghost use Rattle.driver.specs.Step.{is_driver, step_of};
 
-use answers::INVALID;
-use assembly::{Driver, PACKET_LENGTH, Stepped, Told, receive};
-use geometry::Geometry;
-use reading::{Oldest, is_valid_area, read_oldest, refusal_of};
+use answers::Refusal;
+use assembly::{Driver, PACKET_LENGTH, Told};
+use geometry::{Geometry, Layout};
+use reading::{area_layout, take_oldest};
 use records::MOST_EVENTS;
 use records::codes::{NO_SLOT, UNKNOWN_SLOT};
 
 #[tactic(auto, unfolding(crate::specs::Step::is_driver))]
-fn is_driver(geometry: Geometry, driver: Driver) -> bool
-    requires { allowed geometry ≡ true }
-    ensures { result ≡ is_driver geometry driver }
+fn is_driver(layout: Layout, driver: &Driver) -> bool
+    ensures { result ≡ is_driver layout.geometry driver.now }
 {
-    if driver.held > MOST_EVENTS {
-        return false;
-    }
-    let slot = driver.slot;
-    if slot == NO_SLOT {
-        return true;
-    }
-    if slot == UNKNOWN_SLOT {
-        return true;
-    }
-    geometry::is_slot(geometry, slot)
+    driver.held <= MOST_EVENTS
+        && (matches!(driver.slot, NO_SLOT | UNKNOWN_SLOT) || layout.is_slot(driver.slot))
 }
 
-fn is_valid_step(geometry: Geometry, driver: Driver, area_size: usize, packet_size: usize) -> bool
-    ensures { result ≡ is_valid_step geometry driver area_size packet_size }
+// Reads one record. An event that joins the packet is written behind those before it. A malformed record is read too, though it is
+// refused.
+pub fn step(
+    geometry: Geometry,
+    driver: &mut Driver,
+    area: &mut [u8],
+    packet: &mut [u8],
+) -> Result<Told, Refusal>
+    ensures { let step = step_of geometry driver.old area.old packet.old in
+        (told_of result ≡ step.stepped.told) × ((driver.new ≡ step.stepped.driver) × ((area.new ≡ step.area)
+        × ((packet.new ≡ step.packet) × (answer_of result ≡ step_answer geometry driver.old area.old packet.old)))) }
 {
-    if !is_valid_area(geometry, area_size) {
-        return false;
-    }
-    if packet_size != PACKET_LENGTH {
-        return false;
-    }
-    is_driver(geometry, driver)
-}
-
-// Reads one record. An event that joins the packet is written behind those before it.
-pub fn step(geometry: Geometry, driver: Driver, area: &mut [u8], packet: &mut [u8]) -> Stepped
-    ensures { let step = step_of geometry driver area.old packet.old in
-        (result ≡ step.stepped) × ((area.new ≡ step.area) × ((packet.new ≡ step.packet)
-        × (answer_of result.told ≡ step_answer geometry driver area.old packet.old))) }
-{
-    if !is_valid_step(geometry, driver, area.len(), packet.len()) {
-        return Stepped {
-            told: Told::Refused(INVALID),
-            driver: driver,
-        };
-    }
-    let ring = geometry::ring_of(geometry);
-    let oldest = read_oldest(ring, &area[..]);
-    let Oldest::Record { index, event } = oldest else {
-        let refusal = refusal_of(oldest);
-        return Stepped {
-            told: Told::Refused(refusal),
-            driver: driver,
-        };
+    let layout = area_layout(geometry, &area[..])?;
+    let Some(packet) = packet.as_mut_array::<PACKET_LENGTH>() else {
+        return Err(Refusal::Invalid);
     };
-    let next = records::next_index(ring, index);
-    records::set_read_pointer(area, next);
-    receive(geometry, driver, event, packet)
+    if !is_driver(layout, driver) {
+        return Err(Refusal::Invalid);
+    }
+    // Kept: taken apart by let .. else, a form asked for by place.
+    let taken = take_oldest(layout.ring(), area);
+    let Ok(event) = taken else {
+        return Err(taken.unwrap_err());
+    };
+    driver.receive(layout, event, packet)
 }

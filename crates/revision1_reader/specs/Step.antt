@@ -1,14 +1,16 @@
 -- The step of a revision 1 reader (02, E1): 1, 10, 11 as the driver's; then one record is taken, r advances modulo R, and the record's
 -- 8 bytes are handed back. The reader has no state of its own.
-use Rattle.std.specs.Prelude.{ℕ, Bool, not, cond, List, ◌∷◌, length}
+use Rattle.std.specs.Prelude.{ℕ, Bool, not, cond, List, ◌∷◌, Result, Ok, Err, length}
 use Rattle.answers.specs.Answers.{done, invalid}
+use Rattle.answers.specs.declared.Refusal.{Refusal}
+use Rattle.answers.specs.Refusal.{number_of}
 use Rattle.answers.specs.Refusals.{first_refusal}
 use Rattle.geometry.specs.declared.Geometry.{Geometry}
 use Rattle.geometry.specs.Geometry.{ring_of}
 use Rattle.records.specs.declared.Event.{Event}
 use Rattle.records.specs.Ring.{read_pointer, write_pointer, with_read_pointer, next_index}
-use Rattle.reading.specs.declared.Oldest.{Oldest}
-use Rattle.reading.specs.declared.Oldest.TheVariants as oldest
+use Rattle.reading.specs.Oldest.{Oldest}
+use Rattle.reading.specs.Oldest as oldest
 use Rattle.reading.specs.Reading.{is_valid_area, reading_refusals}
 use Rattle.reading.specs.Oldest.{oldest_of}
 use Rattle.revision1_reader.specs.declared.Taken.{Taken}
@@ -20,6 +22,11 @@ taken_as event = record { answer = done; flags = event.kind; revision = event.co
 -- Zeros where none was taken.
 abbrev pub refused_with : ℕ → Taken
 refused_with answer = record { answer = answer; flags = 0; revision = 0; «data» = 0 }
+
+-- What the code hands back, as the bytes of a record with a number.
+abbrev pub taken_of : Result Event Refusal → Taken
+taken_of (Ok event) = taken_as event
+taken_of (Err refusal) = refused_with (number_of refusal)
 
 -- The order of refusals: 1, 10, 11.
 abbrev pub take_refusals : Geometry → List ℕ → List (Bool × ℕ)

@@ -2,14 +2,16 @@
 #![tactic(auto)]
 
 ghost use Rattle.std.specs.Prelude.{◌≡◌};
-ghost use Rattle.revision1_reader.specs.Step.{taken_as, refused_with, take_answer, take_of};
+ghost use Rattle.answers.specs.Refusal.{answer_of};
+ghost use Rattle.revision1_reader.specs.Step.{taken_of, take_answer, take_of};
 
-use answers::{DONE, INVALID};
+use answers::{DONE, Refusal};
 use geometry::Geometry;
-use reading::{Oldest, is_valid_area, read_oldest, refusal_of};
+use reading::{area_layout, take_oldest};
 use records::Event;
 
-// What a step hands back: its answer, and the 8 bytes of the record, zeros where none was taken.
+// What a step hands back: its answer, and the 8 bytes of the record, zeros where none was taken. Kept beside the Result:
+// `thayarqo_revision1_step` answers this struct.
 #[repr(C)]
 #[derive(Clone, Copy)]
 pub struct Taken {
@@ -19,42 +21,33 @@ pub struct Taken {
     pub data: u32,
 }
 
-fn handed(event: Event) -> Taken
-    ensures { result ≡ taken_as event }
-{
-    Taken {
-        answer: DONE,
-        flags: event.kind,
-        revision: event.code,
-        data: event.value,
-    }
-}
+// Kept apart from the other structs of C: one conversion for all would need a trait that sets the fields of each.
+impl From<Result<Event, Refusal>> for Taken {
+    ghost from_gives = { λ outcome taken. taken ≡ taken_of outcome };
 
-fn refused(answer: u8) -> Taken
-    ensures { result ≡ refused_with answer }
-{
-    Taken {
-        answer: answer,
-        flags: 0,
-        revision: 0,
-        data: 0,
+    fn from(outcome: Result<Event, Refusal>) -> Taken {
+        match outcome {
+            Ok(event) => Taken {
+                answer: DONE,
+                flags: event.kind,
+                revision: event.code,
+                data: event.value,
+            },
+            Err(refusal) => Taken {
+                answer: refusal.number(),
+                flags: 0,
+                revision: 0,
+                data: 0,
+            },
+        }
     }
 }
 
 // Takes one record.
-pub fn step(geometry: Geometry, area: &mut [u8]) -> Taken
+pub fn step(geometry: Geometry, area: &mut [u8]) -> Result<Event, Refusal>
     ensures { let take = take_of geometry area.old in
-        (result ≡ take.taken) × ((area.new ≡ take.area) × (result.answer ≡ take_answer geometry area.old)) }
+        (taken_of result ≡ take.taken) × ((area.new ≡ take.area) × (answer_of result ≡ take_answer geometry area.old)) }
 {
-    if !is_valid_area(geometry, area.len()) {
-        return refused(INVALID);
-    }
-    let ring = geometry::ring_of(geometry);
-    let oldest = read_oldest(ring, &area[..]);
-    let Oldest::Record { index, event } = oldest else {
-        return refused(refusal_of(oldest));
-    };
-    let next = records::next_index(ring, index);
-    records::set_read_pointer(area, next);
-    handed(event)
+    let layout = area_layout(geometry, &area[..])?;
+    take_oldest(layout.ring(), area)
 }

@@ -1,9 +1,10 @@
 -- The events that a driver holds after a record.
-use Prim.Native.Nat.{ℕ, ◌+◌, ◌*◌, ◌≤◌, ◌<◌}
+use Prim.Native.Nat.{ℕ, ◌+◌, ◌*◌, ◌≤◌, ◌<◌, zero-le}
 use mathlib.Core.Path.{◌≡◌, refl, sym, ◌∙◌}
 use mathlib.Core.Bool.{true, false}
 use mathlib.Core.List.{List, [], ◌∷◌, ◌++◌}
 use native.Mathlib.Omega.{arith}
+use native.Mathlib.Nat.{le_refl, le_of_eq}
 use native.Mathlib.Numerals.{add-one}
 use lib.ListN.{length}
 use borrow.Author.Tests.{le-leb, lt-leb, le-ltb, lt-ltb}
@@ -11,15 +12,18 @@ use Rattle.copying.specs.Copying.{overwrite}
 use Rattle.copying.proofs.Laws.Overwrite.{overwrite-length}
 use Rattle.geometry.specs.declared.Geometry.{Geometry}
 use Rattle.records.specs.declared.Event.{Event}
+use Rattle.records.specs.Codes.{no_slot}
 use Rattle.records.specs.Event.{most_events, EventFits, event_bytes, events_from}
 use Rattle.records.proofs.Laws.Event.{event-length}
 use Rattle.records.proofs.Laws.Events.{events_joined}
 use Rattle.assembly.specs.declared.Driver.{Driver}
 use Rattle.assembly.specs.declared.Kind.{Kind}
-use Rattle.assembly.specs.declared.Stepped.{Stepped}
+use Rattle.assembly.specs.declared.Kind.TheVariants.{SynReport, SynDropped, DevSet, DevConf}
+use Rattle.assembly.specs.declared.Kind.TheVariants.{DevReset, DevResetAll, BadDevSet, BadDev, Other}
 use Rattle.assembly.specs.Kind.{kind_of}
 use Rattle.assembly.specs.Transition.{with_overlong, with_one_more, joined, received, receive}
 use Rattle.assembly.specs.Collect.{collected}
+use Rattle.assembly.proofs.Laws.Held.{moved_held, without_held}
 
 module _ (before after : Driver) (event : Event) (packet : List ℕ) where
   -- none joined
@@ -64,8 +68,20 @@ module _ (driver : Driver) (event : Event) (packet : List ℕ) where
 
 -- ---- a record that doesn't join
 
-pub none_joins : (geometry : Geometry) (event : Event) (driver : Driver) (packet : List ℕ) (kind : Kind) → kind_of geometry event ≡ kind
-    → (received kind event driver).driver.held ≤ driver.held → {result : Stepped} → result ≡ received kind event driver
-    → (result ≡ receive geometry event driver) × (packet ≡ collected driver (receive geometry event driver).driver event packet)
-none_joins geometry event driver packet kind is fewer e =
-    rw is (e, sym (none_joined driver (received kind event driver).driver event packet fewer))
+-- none but an event as any other
+none_kept : (kind : Kind) (event : Event) (driver : Driver) (packet : List ℕ) → (kind ≡ Other → ⊥)
+    → collected driver (received kind event driver).driver event packet ≡ packet
+none_kept SynReport event driver packet n = none_joined driver _ event packet zero-le
+none_kept SynDropped event driver packet n = none_joined driver _ event packet zero-le
+none_kept DevSet event driver packet n = none_joined driver _ event packet (le_of_eq (moved_held event.value driver))
+none_kept DevConf event driver packet n = none_joined driver _ event packet (le_refl _)
+none_kept DevReset event driver packet n = none_joined driver _ event packet (le_of_eq (without_held event.value driver))
+none_kept DevResetAll event driver packet n = none_joined driver _ event packet (le_of_eq (moved_held no_slot driver))
+none_kept BadDevSet event driver packet n = none_joined driver _ event packet (le_of_eq (moved_held no_slot driver))
+none_kept BadDev event driver packet n = none_joined driver _ event packet (le_refl _)
+none_kept Other event driver packet n = absurd (n refl)
+
+-- a record of such a kind leaves the buffer as it is
+pub none_joins : (geometry : Geometry) (event : Event) (driver : Driver) (packet : List ℕ) {kind : Kind} → kind ≡ kind_of geometry event
+    → (kind ≡ Other → ⊥) → packet ≡ collected driver (receive geometry event driver).driver event packet
+none_joins geometry event driver packet {kind} is n = rw (← is) (sym (none_kept kind event driver packet n))

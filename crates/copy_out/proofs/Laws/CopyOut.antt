@@ -3,12 +3,12 @@ use Prim.Native.Nat.{ℕ, zero, suc, ◌+◌, ◌-◌, ◌*◌, ◌%◌, ◌≤�
 use mathlib.Core.Path.{◌≡◌, refl, sym, ap, ◌∙◌}
 use mathlib.Core.List.{List, ◌++◌, append_assoc}
 use native.Mathlib.Omega.{arith}
-use native.Mathlib.Nat.{mod-eq_of_lt, mod-lt, mod_self, zero-mod, add-mod_right, suc-mod, mul-add, mul-one, zero-add, add-zero, suc-add}
+use native.Mathlib.Nat.{mod-eq_of_lt, mod-lt, mod_self, zero-mod, add-mod_right, suc-mod, mul-add, mul_comm, zero-add, add-zero, suc-add}
 use lib.ListN.{length, take, drop, length-append, length-drop}
 use lib.Seq.{length-take-le}
 use Rattle.copying.specs.Copying.{overwrite}
 use Rattle.copying.proofs.Laws.Overwrite.{lent_part, overwrite_whole, overwrite_next}
-use Rattle.copying.proofs.Laws.Remains.{Remains, begin, done, stretch_stored}
+use Rattle.copying.proofs.Laws.Remains.{Remains, done, stretch_stored}
 use Rattle.geometry.specs.declared.Ring.{Ring}
 use Rattle.geometry.specs.Geometry.{record_place}
 use Rattle.records.specs.Ring.{Holds}
@@ -48,67 +48,54 @@ bytes-append ring area index (suc one) other =
     (sym (append_assoc (record_bytes ring area index) (bytes_from ring area (suc index) one)
     (bytes_from ring area (index + suc one) other)))
 
--- ---- the loop that copies `count` records from `first` on: `left` of them remain
+-- ---- the loop that copies `count` records from `first` on: it has copied i of them
 
-pub record Turn (ring : Ring) (area : List ℕ) (first count : ℕ) (start out : List ℕ) (place at left : ℕ) : Type 0 where
-  pub remains : Remains start 0 (bytes_from ring area first count) out at (bytes_from ring area (first + (count - left)) left)
-  pub few : left ≤ count
-  pub there : place ≡ record_place ring (first + (count - left))
-  pub room : at + left * 8 ≤ length out
+-- once the others are put behind those, the output is as wanted
+abbrev pub Turn : (ring : Ring) (area : List ℕ) (first count : ℕ) (start out : List ℕ) (i : ℕ) → Type 0
+Turn ring area first count start out i =
+    Remains start 0 (bytes_from ring area first count) out (i * 8) (bytes_from ring area (first + i) (count - i))
 
-module _ (ring : Ring) (area : List ℕ) (holds : Holds (length area) ring) (first count : ℕ) (start : List ℕ)
-    (inside : first + count ≤ ring.length) where
-  pub turn_begins : {place : ℕ} → place ≡ record_place ring first → count * 8 ≤ length start
-      → Turn ring area first count start start place 0 count
-  turn_begins there room =
-      let e : first + (count - count) ≡ first = omega arith in
-      record { remains = rw e (begin start 0 _); few = omega arith; there = rw e there; room = omega arith }
+module _ (ring : Ring) (area : List ℕ) (holds : Holds (length area) ring) (first count : ℕ) (start : List ℕ) where
+  -- the place of a record behind the first
+  pub place_further : (i : ℕ) → record_place ring first + i * ring.record_size ≡ record_place ring (first + i)
+  place_further i =
+      let e : first + i + 1 ≡ first + 1 + i = omega arith in
+      rw (e, mul-add ring.record_size (first + 1) i) (ap (λ (n : ℕ). record_place ring first + n) (mul_comm i ring.record_size))
 
-  module _ {out : List ℕ} {place at left : ℕ} (turn : Turn ring area first count start out place at left) (some : 0 < left) where
-    index : ℕ
-    index = first + (count - left)
+  pub further_inside : {i : ℕ} → first + count ≤ ring.length → i < count
+      → record_place ring first + i * ring.record_size + 8 ≤ length area
+  further_inside {i} inside few = rw (place_further i) (place_inside (length area) ring holds (first + i) (omega arith))
 
-    index_inside : index < ring.length
-    unfolding index
-    index_inside = omega (arith, turn.few)
+  pub turn_goes_on : {out after : List ℕ} {i : ℕ} → first + count ≤ ring.length → count * 8 ≤ length start → i < count
+      → Turn ring area first count start out i
+      → after ≡ overwrite out (i * 8)
+      (take (record_place ring (first + i) + 8 - record_place ring (first + i)) (drop (record_place ring (first + i)) area))
+      → Turn ring area first count start after (i + 1)
+  unfolding bytes_from
+  turn_goes_on {out} {after} {i} inside room few remains wrote =
+      let index : ℕ = first + i in
+      let one_more : count - i ≡ suc (count - (i + 1)) = omega arith in
+      let eight : record_place ring index + 8 - record_place ring index ≡ 8 = omega arith in
+      let low : index < ring.length = omega arith in
+      let bytes : take (record_place ring index + 8 - record_place ring index) (drop (record_place ring index) area)
+      ≡ record_bytes ring area index = rw (eight, mod-eq_of_lt low) in
+      let n : length (record_bytes ring area index) ≡ 8 = bytes-length ring area holds index (omega arith) in
+      let further : (i + 1) * 8 ≡ i * 8 + 8 = omega arith in
+      let split : bytes_from ring area index (count - i)
+      ≡ record_bytes ring area index ++ bytes_from ring area (suc index) (count - (i + 1))
+      = ap (bytes_from ring area index) one_more in
+      let fits : i * 8 + length (record_bytes ring area index) ≤ length out = omega (arith, remains.size) in
+      let stored = stretch_stored start 0 _ out (i * 8) (record_bytes ring area index)
+      (bytes_from ring area (suc index) (count - (i + 1))) fits (rw split at remains) in
+      let next : suc (first + i) ≡ first + (i + 1) = omega arith in
+      rw (wrote, bytes, further) (rw (n, next) at stored)
 
-    pub record_inside : place + 8 ≤ length area
-    unfolding index
-    record_inside = omega (arith, turn.there, place_inside (length area) ring holds index index_inside)
-
-    -- the place of the next record
-    next_place : place + ring.record_size ≡ record_place ring (first + (count - (left - 1)))
-    unfolding index
-    next_place =
-        let e : first + (count - (left - 1)) ≡ index + 1 = omega (arith, turn.few) in
-        rw (e, turn.there) (omega (arith, mul-add ring.record_size (index + 1) 1, mul-one ring.record_size))
-
-    pub turn_goes_on : {after : List ℕ} → after ≡ overwrite out at (take (place + 8 - place) (drop place area))
-        → Turn ring area first count start after (place + ring.record_size) (at + 8) (left - 1)
-    unfolding bytes_from index
-    turn_goes_on {after} wrote =
-        let one_more : left ≡ suc (left - 1) = omega arith in
-        let eight : place + 8 - place ≡ 8 = omega arith in
-        let bytes : take (place + 8 - place) (drop place area) ≡ record_bytes ring area index =
-        rw (eight, turn.there, mod-eq_of_lt index_inside) in
-        let n : length (record_bytes ring area index) ≡ 8 = bytes-length ring area holds index (omega (arith, index_inside)) in
-        let next : suc index ≡ first + (count - (left - 1)) = omega (arith, turn.few) in
-        let split : bytes_from ring area index left ≡ record_bytes ring area index ++ bytes_from ring area (suc index) (left - 1) =
-        ap (bytes_from ring area index) one_more in
-        let fits : at + length (record_bytes ring area index) ≤ length out = omega (arith, turn.room) in
-        let stored = stretch_stored start 0 _ out at (record_bytes ring area index) (bytes_from ring area (suc index) (left - 1)) fits
-        (rw split at turn.remains) in
-        record {
-          remains = rw (wrote, bytes, ← next) (rw n at stored);
-          few = omega (arith, turn.few);
-          there = next_place;
-          room = rw (wrote, bytes) (omega (arith, turn.room, stored.size, turn.remains.size));
-        }
-
-  pub turn_ends : {out : List ℕ} {place at left : ℕ} → Turn ring area first count start out place at left → left ≡ 0
+  pub turn_ends : {out : List ℕ} {i : ℕ} → Turn ring area first count start out i → count ≤ i
       → out ≡ overwrite start 0 (bytes_from ring area first count)
   unfolding bytes_from
-  turn_ends {out} {at = at} turn none = done start 0 _ out at (rw none at turn.remains)
+  turn_ends {out} {i} turn past =
+      let none : count - i ≡ 0 = omega arith in
+      done start 0 _ out (i * 8) (rw none at turn)
 
 -- ---- the two runs: up to the ring's end, and from its start on
 

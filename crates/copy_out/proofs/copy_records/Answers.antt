@@ -5,9 +5,9 @@ use Rattle.copy_out.proofs.copy_records.Goals as goal
 
 pub returns : goal.returns
 returns c = (
-  two_runs c.args.ring c.args.area.now c.requires.holds c.args.first c.args.count c.args.out.now c.requires.first_lt_length.0
-      (omega (arith, c.if-count-until.false)) c.requires.first_lt_length.1,
-  both_copied c.args.ring c.args.area.now c.requires.holds c.args.first c.args.count c.args.out.now c.requires.first_lt_length.0
-      (omega (arith, c.if-count-until.false)) c.requires.first_lt_length.1 _ c.requires.first_lt_length.2 (omega arith)
+  two_runs c.args.from.ring c.args.area.now c.requires.holds c.args.from.index c.args.count c.args.out.now c.args.from.in_ring
+      (omega (arith, c.if-count-until.false)) c.requires.count_bound.0,
+  both_copied c.args.from.ring c.args.area.now c.requires.holds c.args.from.index c.args.count c.args.out.now c.args.from.in_ring
+      (omega (arith, c.if-count-until.false)) c.requires.count_bound.0 _ c.requires.count_bound.1 (omega arith)
       c.copy_run-2.ensures c.copy_run-3.ensures,
 )

@@ -5,6 +5,9 @@ use mathlib.Core.Bool.{Bool, true, false, cond}
 use mathlib.Core.List.{List}
 use lib.Dec.{leb, eqb}
 use lib.ListN.{length}
+use Rattle.std.proofs.Common.{Result, Ok, Err}
+use Rattle.answers.specs.declared.Refusal.{Refusal}
+use Rattle.answers.specs.Refusal.{answer_of as number_answered}
 use Rattle.answers.specs.Refusals.{first_refusal}
 use Rattle.geometry.specs.declared.Geometry.{Geometry}
 use Rattle.geometry.specs.Geometry.{ring_length, ring_of}
@@ -12,12 +15,14 @@ use Rattle.records.specs.declared.Event.{Event}
 use Rattle.records.specs.Ring.{read_pointer, write_pointer}
 use Rattle.records.specs.Unread.{record_at}
 use Rattle.assembly.specs.declared.Driver.{Driver}
-use Rattle.assembly.specs.declared.Stepped.{Stepped}
+use Rattle.assembly.specs.declared.Told.{Told as Answered}
+use Rattle.assembly.specs.declared.Told.TheVariants as told
+use Rattle.assembly.specs.Told.{Told, Stepped, told_of}
 use Rattle.assembly.specs.declared.Kind.{Kind}
 use Rattle.assembly.specs.declared.Kind.TheVariants.{SynReport, SynDropped, DevSet, DevConf, DevReset, DevResetAll}
 use Rattle.assembly.specs.declared.Kind.TheVariants.{BadDevSet, BadDev, Other}
 use Rattle.assembly.specs.Kind.{kind_of}
-use Rattle.assembly.specs.Transition.{answer_of, reported, received}
+use Rattle.assembly.specs.Transition.{answer_of, tells, reported, received}
 use Rattle.reading.specs.Reading.{reading_refusal}
 use Rattle.reading.specs.Oldest.{oldest_of}
 use Rattle.driver.specs.Step.{is_valid_step, step_of}
@@ -48,6 +53,18 @@ record_answer BadDevSet event driver = refl
 record_answer BadDev event driver = refl
 record_answer Other event driver = refl
 
+-- the code's answer has the number of what it tells
+same_number : (result : Result Answered Refusal) → number_answered result ≡ answer_of (told_of result)
+same_number (Err refusal) = refl
+same_number (Ok told.Nothing) = refl
+same_number (Ok told.Gap) = refl
+same_number (Ok told.EmptyReport) = refl
+same_number (Ok (told.Packet slot count)) = refl
+same_number (Ok (told.Set slot)) = refl
+same_number (Ok (told.Conf slot)) = refl
+same_number (Ok (told.Reset slot)) = refl
+same_number (Ok told.ResetAll) = refl
+
 module _ (geometry : Geometry) (driver : Driver) (area packet : List ℕ) where
   step_answer_lem : answer_of (step_of geometry driver area packet).stepped.told ≡ step_answer geometry driver area packet
   unfolding step_of oldest_of reading_refusal first_refusal
@@ -69,8 +86,17 @@ module _ (geometry : Geometry) (driver : Driver) (area packet : List ℕ) where
           rw (p, q, r, s) (record_answer (kind_of geometry event) event driver)
 
   -- what a step leaves, with the number that it tells
-  pub answered : {result : Stepped} {area' packet' : List ℕ} → Leaves geometry driver area packet result area' packet'
-      → (result ≡ (step_of geometry driver area packet).stepped)
+  pub answered : (result : Result Answered Refusal) {driver' : Driver} {area' packet' : List ℕ}
+      → Leaves geometry driver area packet (tells (told_of result) driver') area' packet'
+      → (told_of result ≡ (step_of geometry driver area packet).stepped.told)
+      × ((driver' ≡ (step_of geometry driver area packet).stepped.driver)
       × ((area' ≡ (step_of geometry driver area packet).area) × ((packet' ≡ (step_of geometry driver area packet).packet)
-      × (answer_of result.told ≡ step_answer geometry driver area packet)))
-  answered e = (e.told, (e.area_left, (e.packet_left, ap (λ (s : Stepped). answer_of s.told) e.told ∙ step_answer_lem)))
+      × (number_answered result ≡ step_answer geometry driver area packet))))
+  answered result e =
+      let same : told_of result ≡ (step_of geometry driver area packet).stepped.told = ap (λ (s : Stepped). s.told) e.told in (
+        same,
+        (
+          ap (λ (s : Stepped). s.driver) e.told,
+          (e.area_left, (e.packet_left, same_number result ∙ ap (λ (t : Told). answer_of t) same ∙ step_answer_lem)),
+        ),
+      )

@@ -1,11 +1,12 @@
 -- The ways out of a step, each with what is told and what stands in the area.
 use Prim.Native.Nat.{ℕ}
 use mathlib.Core.Path.{◌≡◌, ◌∙◌}
+use mathlib.Core.Logic.{◌≢◌}
 use mathlib.Core.Bool.{true, false}
 use mathlib.Core.List.{List}
 use lib.Dec.{eqb}
 use lib.ListN.{length}
-use borrow.Author.Tests.{eqb-true}
+use borrow.Author.Tests.{eqb-true, eq-eqb, ne_eqb}
 use Rattle.geometry.specs.declared.Geometry.{Geometry}
 use Rattle.geometry.specs.Geometry.{allowed, area_length, ring_of}
 use Rattle.geometry.proofs.Laws.Allowed.{both}
@@ -13,9 +14,9 @@ use Rattle.records.specs.declared.Event.{Event}
 use Rattle.records.specs.Ring.{Holds, with_read_pointer, next_index}
 use Rattle.records.proofs.Laws.Place.{allowed-holds}
 use Rattle.assembly.specs.declared.Driver.{Driver}
-use Rattle.assembly.specs.declared.Stepped.{Stepped}
-use Rattle.assembly.specs.declared.Told.TheVariants as told
-use Rattle.reading.specs.declared.Oldest.TheVariants as oldest
+use Rattle.assembly.specs.Told.{Told, Stepped}
+use Rattle.assembly.specs.Told as told
+use Rattle.reading.specs.Oldest as oldest
 use Rattle.assembly.specs.Transition.{tells, receive}
 use Rattle.assembly.specs.Collect.{packet_length, collected}
 use Rattle.reading.specs.Reading.{is_valid_area}
@@ -37,6 +38,35 @@ valid geometry driver area_size packet_size h =
     let b = both (eqb packet_size packet_length) (is_driver geometry driver) a.1 in
     let s = sized geometry area_size a.0 in
     record { is_allowed = s.0; is_area_length = s.1; holds_packet = eqb-true packet_size packet_length b.0 }
+
+-- ---- the tests in their order
+
+module _ (geometry : Geometry) (driver : Driver) (area_size packet_size : ℕ) where
+  pub wrong_area : is_valid_area geometry area_size ≡ false → is_valid_step geometry driver area_size packet_size ≡ false
+  unfolding is_valid_step
+  wrong_area h = rw h
+
+  module _ (fine : is_valid_area geometry area_size ≡ true) where
+    pub wrong_packet : packet_size ≢ packet_length → is_valid_step geometry driver area_size packet_size ≡ false
+    unfolding is_valid_step
+    wrong_packet n = rw (fine, ne_eqb packet_size packet_length n)
+
+    pub wrong_driver : packet_size ≡ packet_length → is_driver geometry driver ≡ false
+        → is_valid_step geometry driver area_size packet_size ≡ false
+    unfolding is_valid_step
+    wrong_driver e h = rw (fine, eq-eqb packet_size packet_length e, h)
+
+    pub all_valid : packet_size ≡ packet_length → is_driver geometry driver ≡ true
+        → is_valid_step geometry driver area_size packet_size ≡ true
+    unfolding is_valid_step
+    all_valid e h = rw (fine, eq-eqb packet_size packet_length e, h)
+
+-- ---- the ways out
+
+-- what a step tells, with the driver after it
+pub told_with : {stepped : Stepped} {what : Told} {driver : Driver} → what ≡ stepped.told → driver ≡ stepped.driver
+    → tells what driver ≡ stepped
+told_with w d = rw (w, d)
 
 -- What a step leaves is what the definition says.
 pub record Leaves (geometry : Geometry) (driver : Driver) (area packet : List ℕ) (result : Stepped) (area' packet' : List ℕ) : Type 0 where

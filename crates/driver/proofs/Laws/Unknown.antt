@@ -12,8 +12,8 @@ use Rattle.records.specs.Ring.{Holds, next_index}
 use Rattle.records.specs.Unread.{SameToDriver}
 use Rattle.records.proofs.Laws.Unknown.{same_moved}
 use Rattle.assembly.specs.declared.Driver.{Driver}
-use Rattle.reading.specs.declared.Oldest.{Oldest}
-use Rattle.reading.specs.declared.Oldest.TheVariants.{Record, Refused}
+use Rattle.reading.specs.Oldest.{Oldest}
+use Rattle.reading.specs.Oldest.{Record, Refused}
 use Rattle.reading.specs.Oldest.{oldest_of}
 use Rattle.reading.proofs.Laws.Oldest.{same_oldest}
 use Rattle.driver.specs.Step.{is_valid_step, StepResult, step_on, step_of}

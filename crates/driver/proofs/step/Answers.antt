@@ -1,60 +1,63 @@
--- A law for each way out: invalid, nothing to read, received. All need that the record read is the definition's oldest, proved once.
-use mathlib.Core.Path.{◌≡◌, sym, ap, ◌∙◌}
+-- A law for each way out: invalid, nothing to read, received. The tests are those of the definition, in its order.
+use mathlib.Core.Path.{◌≡◌, sym, ◌∙◌}
+use mathlib.Core.Bool.{true}
 use lib.ListN.{length}
-use Rattle.geometry.specs.declared.Ring.{Ring}
+use Rattle.std.proofs.Common.{Err}
+use Rattle.std.proofs.lemmas.Result.{err_from_is_err_and}
+use Rattle.answers.specs.declared.Refusal.TheVariants.{Invalid}
 use Rattle.geometry.specs.Geometry.{ring_of}
-use Rattle.records.specs.Ring.{Holds}
-use Rattle.records.proofs.Laws.Place.{pointers_inside}
-use Rattle.reading.specs.Oldest.{oldest_of}
+use Rattle.driver.specs.Step.{is_valid_step}
 use Rattle.driver.proofs.Laws.Answer.{answered}
-use Rattle.reading.proofs.Laws.Oldest.{oldest_index}
-use Rattle.driver.proofs.Laws.Step.{valid, valid_holds, step_invalid, step_refused, step_received}
+use Rattle.driver.proofs.Laws.Step.{wrong_area, wrong_packet, wrong_driver, all_valid, step_invalid, step_refused, step_received, told_with}
 use Rattle.driver.proofs.step.Goals as goal
-use Rattle.driver.proofs.step.Goals.{After-read_oldest-oldest, Else-not-is_valid_step}
+use Rattle.driver.proofs.step.Goals.{After-ring}
 
-holds : (c : Else-not-is_valid_step) → Holds (length c.args.area.now) (ring_of c.args.geometry)
-holds c =
-    valid_holds c.args.geometry c.args.driver c.args.area.now c.args.packet.now
-    (sym c.is_valid_step.ensures ∙ c.if-not-is_valid_step.false)
+is_valid : (c : After-ring) → is_valid_step c.args.geometry c.args.driver.now (length c.args.area.now) (length c.args.packet.now) ≡ true
+is_valid c =
+    all_valid c.args.geometry c.args.driver.now _ _ (sym c.in_ok-layout.ensures.tested) c.in-Some.ensures.cases.long
+    (sym (rw c.in_ok-layout.ensures.same at c.is_driver.ensures) ∙ c.if-not-is_driver.false)
 
--- what was read, by the definition
-read : (c : After-read_oldest-oldest) → c.read_oldest-oldest.result ≡ oldest_of (ring_of c.args.geometry) c.args.area.now
-read c = c.read_oldest-oldest.ensures ∙ ap (λ (ring : Ring). oldest_of ring c.args.area.now) c.ring_of-ring.ensures
+ring_is : (c : After-ring) → c.ring.result ≡ ring_of c.args.geometry
+ring_is c = rw c.in_ok-layout.ensures.same at c.ring.ensures
 
-pub returns-then-not-is_valid_step : goal.returns-then-not-is_valid_step
-returns-then-not-is_valid_step c = let wrong = sym c.is_valid_step.ensures ∙ c.if-not-is_valid_step.true in
-    answered c.args.geometry c.args.driver c.args.area.now c.args.packet.now
-    (step_invalid c.args.geometry c.args.driver c.args.area.now c.args.packet.now wrong)
-
-pub ring_of-ring-requires : goal.ring_of-ring-requires
-ring_of-ring-requires c = (valid _ _ _ _ (sym c.is_valid_step.ensures ∙ c.if-not-is_valid_step.false)).is_allowed
-
-pub read_oldest-oldest-requires : goal.read_oldest-oldest-requires
-read_oldest-oldest-requires c = rw c.ring_of-ring.ensures (holds (goal.at.read_oldest-oldest-requires c).Else-not-is_valid_step)
+pub returns-in_err-layout : goal.returns-in_err-layout
+returns-in_err-layout c =
+    let p = err_from_is_err_and c.from_residual.result c.from_residual.ensures.1 in
+    rw (p.1, p.2, c.in_err-layout.ensures.refused)
+    (answered c.args.geometry c.args.driver.now c.args.area.now c.args.packet.now (Err Invalid)
+    (step_invalid c.args.geometry c.args.driver.now c.args.area.now c.args.packet.now
+    (wrong_area c.args.geometry c.args.driver.now _ _ (sym c.in_err-layout.ensures.tested))))
 
 pub returns-in_default : goal.returns-in_default
-returns-in_default c = rw (c.refusal_of-refusal.ensures, c.in_default.is)
-    (answered c.args.geometry c.args.driver c.args.area.now c.args.packet.now
-    (step_refused c.args.geometry c.args.driver c.args.area.now c.args.packet.now
-    (sym c.is_valid_step.ensures ∙ c.if-not-is_valid_step.false)
-    (sym (read (goal.at.returns-in_default c).After-read_oldest-oldest) ∙ c.in_default.is)))
+returns-in_default c =
+    answered c.args.geometry c.args.driver.now c.args.area.now c.args.packet.now (Err Invalid)
+    (step_invalid c.args.geometry c.args.driver.now c.args.area.now c.args.packet.now
+    (wrong_packet c.args.geometry c.args.driver.now _ _ (sym c.in_ok-layout.ensures.tested) c.in_default.ensures.cases))
 
-pub next_index-next-requires : goal.next_index-next-requires
-next_index-next-requires c =
-    let index = oldest_index _ _ (sym (read (goal.at.next_index-next-requires c).After-read_oldest-oldest) ∙ c.in-Record.is) in
-    rw c.ring_of-ring.ensures index.1
+pub returns-then-not-is_driver : goal.returns-then-not-is_driver
+returns-then-not-is_driver c =
+    rw c.in-Some.ensures.cases.same
+    (answered c.args.geometry c.args.driver.now c.args.area.now c.args.packet.now (Err Invalid)
+    (step_invalid c.args.geometry c.args.driver.now c.args.area.now c.args.packet.now
+    (wrong_driver c.args.geometry c.args.driver.now _ _ (sym c.in_ok-layout.ensures.tested) c.in-Some.ensures.cases.long
+    (sym (rw c.in_ok-layout.ensures.same at c.is_driver.ensures) ∙ c.if-not-is_driver.true))))
 
-pub set_read_pointer-requires : goal.set_read_pointer-requires
-set_read_pointer-requires c = pointers_inside _ _ (holds (goal.at.set_read_pointer-requires c).Else-not-is_valid_step)
-
-pub receive-requires : goal.receive-requires
-receive-requires c = let v = valid _ _ _ _ (sym c.is_valid_step.ensures ∙ c.if-not-is_valid_step.false) in
-    (v.is_allowed, v.holds_packet)
+pub returns-in_default-taken : goal.returns-in_default-taken
+returns-in_default-taken c =
+    let at = (goal.at.returns-in_default-taken c).After-ring in
+    let facts = rw c.unwrap_err.ensures at c.take_oldest-taken.ensures.refused in
+    rw (facts.1, c.in-Some.ensures.cases.same)
+    (answered c.args.geometry c.args.driver.now c.args.area.now c.args.packet.now (Err c.unwrap_err.result)
+    (step_refused c.args.geometry c.args.driver.now c.args.area.now c.args.packet.now (is_valid at)
+    (rw (ring_is at) at facts.0)))
 
 pub returns : goal.returns
-returns c = answered c.args.geometry c.args.driver c.args.area.now c.args.packet.now
-    (step_received c.args.geometry c.args.driver c.args.area.now c.args.packet.now
-    (sym c.is_valid_step.ensures ∙ c.if-not-is_valid_step.false)
-    (sym (read (goal.at.returns c).After-read_oldest-oldest) ∙ c.in-Record.is) c.receive.ensures.0
-    (c.set_read_pointer.ensures ∙ rw (c.next_index-next.ensures, c.ring_of-ring.ensures))
-    c.receive.ensures.1)
+returns c =
+    let at = (goal.at.returns c).After-ring in
+    answered c.args.geometry c.args.driver.now c.args.area.now c.args.packet.now c.receive.result
+    (step_received c.args.geometry c.args.driver.now c.args.area.now c.args.packet.now (is_valid at)
+    (rw (ring_is at) at c.in-Ok.ensures.taken.0)
+    (told_with (rw c.in_ok-layout.ensures.same at c.receive.ensures.told)
+    (rw c.in_ok-layout.ensures.same at c.receive.ensures.driver))
+    (rw (ring_is at) at c.in-Ok.ensures.taken.1)
+    (rw (c.in_ok-layout.ensures.same, c.in-Some.ensures.cases.same) at c.receive.ensures.packet))

@@ -14,7 +14,7 @@ use Rattle.records.specs.Unread.{record_at, SameToDriver}
 use Rattle.records.proofs.Laws.Unknown.{same_read_pointer, same_write_pointer, same_record}
 use Rattle.reading.specs.Reading.{reading_refusal}
 use Rattle.reading.specs.Oldest.{oldest_of}
-use Rattle.reading.specs.declared.Oldest.TheVariants.{Record, Refused}
+use Rattle.reading.specs.Oldest.{Record, Refused}
 use Rattle.reading.proofs.Laws.Reading.{Possible, possible}
 
 module _ (ring : Ring) (area : List ℕ) where

@@ -9,6 +9,7 @@ use borrow.Author.Tests.{leb-false, eqb-false, eqb-true}
 use Rattle.answers.proofs.Laws.{none_holds}
 use Rattle.geometry.specs.declared.Geometry.{Geometry}
 use Rattle.geometry.specs.declared.Ring.{Ring}
+use Rattle.geometry.specs.declared.layout.Layout.{Layout}
 use Rattle.geometry.specs.Geometry.{allowed, area_length, ring_of}
 use Rattle.geometry.proofs.Laws.Allowed.{both}
 use Rattle.records.specs.Ring.{Holds}
@@ -28,6 +29,13 @@ pub sized_holds : (geometry : Geometry) (area : List ℕ) → is_valid_area geom
 sized_holds geometry area h =
     let s = sized geometry (length area) h in
     rw s.1 (allowed-holds geometry s.0)
+
+-- an area of a layout's own length holds its ring
+pub layout_holds : (layout : Layout) {geometry : Geometry} {size : ℕ} → layout.geometry ≡ geometry → size ≡ area_length geometry
+    → Holds size (ring_of geometry)
+layout_holds layout same long =
+    let known : allowed _ ≡ true = rw same at layout.is_allowed in
+    rw long (allowed-holds _ known)
 
 pub record Possible (ring : Ring) (read write : ℕ) : Type 0 where
   pub read_inside : read < ring.length
