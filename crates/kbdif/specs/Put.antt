@@ -6,7 +6,11 @@ use Rattle.copying.specs.Copying.{overwrite}
 use Rattle.kbdif_events.specs.Event.{event_length}
 use Rattle.kbdif_decode.specs.Decode.{decoded, may_be_put}
 use Rattle.kbdif_page.specs.Page.{page_length, ring_length, in_cons_of, with_in_prod, next_index, distance, event_place, is_contact_limit}
-use Rattle.kbdif.specs.declared.Stored.{Stored}
+
+-- A put's answer, and the private in_prod after it.
+pub record Stored : Type 0 where
+  pub answer : ℕ
+  pub in_prod : ℕ
 
 -- The order of refusals: 1, 9, 10, and 7 at exactly 51.
 abbrev pub put_refusals : List ℕ → ℕ → ℕ → List ℕ → List (Bool × ℕ)

@@ -1,5 +1,5 @@
 -- Laws of an event's bytes: those of single values, those of its words, and what storing the words leaves.
-use Prim.Native.Nat.{ℕ, ◌+◌, ◌*◌, ◌/◌, ◌%◌, ◌≤◌, ◌<◌, ◌^◌}
+use Prim.Native.Nat.{ℕ, ◌+◌, ◌*◌, ◌/◌, ◌%◌, ◌≤◌, ◌<◌}
 use mathlib.Core.Path.{◌≡◌, refl, ap, ◌∙◌}
 use mathlib.Core.Bool.{Bool, true, false, cond}
 use mathlib.Core.List.{List, [], ◌∷◌, ◌++◌}
@@ -16,10 +16,6 @@ use Rattle.kbdif_events.specs.declared.EventWords.{EventWords}
 pub bool_byte_lem : (flag : Bool) → bool_byte flag ≡ cond flag 1 0
 bool_byte_lem true = refl
 bool_byte_lem false = refl
-
--- the upper half of a word that holds 16 bits
-pub upper_bytes : (v : ℕ) → v < 2 ^ 16 → (v / 65536 % 256 ≡ 0) × (v / 16777216 % 256 ≡ 0)
-upper_bytes v h = (omega arith, omega arith)
 
 -- the word that three bytes make
 head_bytes : (kind detail contact : ℕ) → kind < 256 → detail < 256 → contact < 256

@@ -11,7 +11,10 @@ use signed::{i16_to_bits, i32_to_bits as bits};
 
 pub const EVENT_LENGTH: usize = 40;
 
-// Types of an event, by the names of Xen's header.
+// The bytes that stand for one event.
+pub type EventBytes = [u8; EVENT_LENGTH];
+
+// Types of an event. They are numbers, and not an enum, since they are those of Xen's header, and C gives and gets them.
 pub const XENKBD_TYPE_MOTION: u8 = 1;
 
 pub const XENKBD_TYPE_KEY: u8 = 3;
@@ -44,24 +47,8 @@ pub enum RingEvent {
     TouchSyn { contact: u8 },
     TouchShape { contact: u8, major: u32, minor: u32 },
     TouchOrient { contact: u8, orientation: i16 },
+    // Of another type or subtype. It is an event as the others are, since a take answers it.
     Unknown,
-}
-
-pub fn is_known(event: RingEvent) -> bool
-    ensures { result ≡ known event }
-{
-    match event {
-        RingEvent::Motion { .. } => true,
-        RingEvent::Key { .. } => true,
-        RingEvent::Pos { .. } => true,
-        RingEvent::TouchDown { .. } => true,
-        RingEvent::TouchUp { .. } => true,
-        RingEvent::TouchMotion { .. } => true,
-        RingEvent::TouchSyn { .. } => true,
-        RingEvent::TouchShape { .. } => true,
-        RingEvent::TouchOrient { .. } => true,
-        RingEvent::Unknown => false,
-    }
 }
 
 // The words of an event's first sixteen bytes. The rest are zero.
@@ -73,17 +60,11 @@ struct EventWords {
     third: u32,
 }
 
-fn widen(byte: u8) -> u32
-    ensures { (result ≡ byte) × (result < 256) }
-{
-    byte as u32
-}
-
 fn all_words(kind: u8, detail: u8, contact: u8, first: u32, second: u32, third: u32) -> EventWords
     ensures { words_bytes result ≡ padded (kind ∷ detail ∷ contact ∷ []) 4 (u32_bytes first ++ (u32_bytes second ++ u32_bytes third)) }
 {
     EventWords {
-        head: widen(kind) + widen(detail) * 256 + widen(contact) * 65536,
+        head: u32::from_le_bytes([kind, detail, contact, 0]),
         first,
         second,
         third,
@@ -100,7 +81,7 @@ fn pointer_words(kind: u8, x: i32, y: i32, z: i32) -> EventWords
 fn key_words(pressed: bool, keycode: u32) -> EventWords
     ensures { words_bytes result ≡ padded (xenkbd_type_key ∷ cond pressed 1 0 ∷ []) 4 (u32_bytes keycode) }
 {
-    all_words(XENKBD_TYPE_KEY, pressed as u8, 0, keycode, 0, 0)
+    all_words(XENKBD_TYPE_KEY, u8::from(pressed), 0, keycode, 0, 0)
 }
 
 fn touch_words(subtype: u8, contact: u8, first: u32, second: u32) -> EventWords
@@ -116,53 +97,61 @@ fn place_words(subtype: u8, contact: u8, x: i32, y: i32) -> EventWords
     touch_words(subtype, contact, bits(x), bits(y))
 }
 
-fn words_of(event: RingEvent) -> EventWords
-    ensures { words_bytes result ≡ event_bytes event }
-{
-    match event {
-        RingEvent::Motion { x, y, z } => pointer_words(XENKBD_TYPE_MOTION, x, y, z),
-        RingEvent::Key { pressed, keycode } => key_words(pressed, keycode),
-        RingEvent::Pos { x, y, wheel } => pointer_words(XENKBD_TYPE_POS, x, y, wheel),
-        RingEvent::TouchDown { contact, x, y } => place_words(XENKBD_MT_EV_DOWN, contact, x, y),
-        RingEvent::TouchUp { contact } => touch_words(XENKBD_MT_EV_UP, contact, 0, 0),
-        RingEvent::TouchMotion { contact, x, y } => place_words(XENKBD_MT_EV_MOTION, contact, x, y),
-        RingEvent::TouchSyn { contact } => touch_words(XENKBD_MT_EV_SYN, contact, 0, 0),
-        RingEvent::TouchShape {
-            contact,
-            major,
-            minor,
-        } => touch_words(XENKBD_MT_EV_SHAPE, contact, major, minor),
-        RingEvent::TouchOrient {
-            contact,
-            orientation,
-        } => touch_words(
-            XENKBD_MT_EV_ORIENT,
-            contact,
-            i16_to_bits(orientation) as u32,
-            0,
-        ),
-        RingEvent::Unknown => all_words(0, 0, 0, 0, 0, 0),
-    }
-}
-
 // Writes two words by one store, since a put that comes right after reads them by one load.
 fn write_pair(out: &mut [u8], at: usize, low: u32, high: u32)
     requires { at + 8 ≤ length out.old }
     ensures { out.new ≡ overwrite out.old at (u32_bytes low ++ u32_bytes high) }
 {
-    words::write_u64(out, at, low as u64 + high as u64 * 4294967296);
+    words::write_u64(out, at, u64::from(low) + u64::from(high) * 4294967296);
 }
 
-// Fills 40 bytes with an event. What is unknown becomes zeros, since no event has type 0.
-pub fn encode(out: &mut [u8], event: RingEvent)
-    requires { length out.old ≡ event_length }
-    ensures { out.new ≡ event_bytes event }
-{
-    // Paired in the match, two numbers would be loaded as one from an event that was stored number by number.
-    let words = words_of(event);
-    write_pair(out, 0, words.head, words.first);
-    write_pair(out, 8, words.second, words.third);
-    words::write_u64(out, 16, 0);
-    words::write_u64(out, 24, 0);
-    words::write_u64(out, 32, 0);
+impl RingEvent {
+    pub fn is_known(self) -> bool
+        ensures { result ≡ known self }
+    {
+        !matches!(self, RingEvent::Unknown)
+    }
+
+    #[tactic(auto, unfolding(crate::specs::Event::event_bytes, crate::specs::Event::layout_of))]
+    fn words(self) -> EventWords
+        ensures { words_bytes result ≡ event_bytes self }
+    {
+        match self {
+            RingEvent::Motion { x, y, z } => pointer_words(XENKBD_TYPE_MOTION, x, y, z),
+            RingEvent::Key { pressed, keycode } => key_words(pressed, keycode),
+            RingEvent::Pos { x, y, wheel } => pointer_words(XENKBD_TYPE_POS, x, y, wheel),
+            RingEvent::TouchDown { contact, x, y } => place_words(XENKBD_MT_EV_DOWN, contact, x, y),
+            RingEvent::TouchUp { contact } => touch_words(XENKBD_MT_EV_UP, contact, 0, 0),
+            RingEvent::TouchMotion { contact, x, y } => {
+                place_words(XENKBD_MT_EV_MOTION, contact, x, y)
+            }
+            RingEvent::TouchSyn { contact } => touch_words(XENKBD_MT_EV_SYN, contact, 0, 0),
+            RingEvent::TouchShape {
+                contact,
+                major,
+                minor,
+            } => touch_words(XENKBD_MT_EV_SHAPE, contact, major, minor),
+            RingEvent::TouchOrient {
+                contact,
+                orientation,
+            } => {
+                let bits = u32::from(i16_to_bits(orientation));
+                touch_words(XENKBD_MT_EV_ORIENT, contact, bits, 0)
+            }
+            RingEvent::Unknown => all_words(0, 0, 0, 0, 0, 0),
+        }
+    }
+
+    // Fills 40 bytes with an event. What is unknown becomes zeros, since no event has type 0.
+    pub fn encode(self, out: &mut EventBytes)
+        ensures { out.new ≡ event_bytes self }
+    {
+        // Paired in the match, two numbers would be loaded as one from an event that was stored number by number.
+        let words = self.words();
+        write_pair(out, 0, words.head, words.first);
+        write_pair(out, 8, words.second, words.third);
+        words::write_u64(out, 16, 0);
+        words::write_u64(out, 24, 0);
+        words::write_u64(out, 32, 0);
+    }
 }

@@ -4,8 +4,8 @@ use Rattle.answers.specs.Answers.{done, malformed}
 use Rattle.words.specs.Words.{u32_at}
 use Rattle.kbdif_events.specs.Types.{xenkbd_type_mtouch}
 use Rattle.kbdif_decode.specs.Decode.{i32_at, i16_at}
-use Rattle.kbdif_decode.specs.declared.Form.{Form}
-use Rattle.kbdif_decode.specs.declared.Form.TheVariants.{Malformed, UnknownType, Pointer, KeyPress, Place, Contact, Axes, Orientation}
+use Rattle.kbdif_decode.specs.Form.{Form}
+use Rattle.kbdif_decode.specs.Form.{Malformed, UnknownType, Pointer, KeyPress, Place, Contact, Axes, Orientation}
 use Rattle.kbdif_numbers.specs.Numbers.{no_numbers, place_numbers, key_numbers, shape_numbers, orient_numbers, found}
 use Rattle.kbdif_numbers.specs.declared.RingNumbers.{RingNumbers}
 use Rattle.kbdif_numbers.specs.declared.FoundNumbers.{FoundNumbers}

@@ -1,7 +1,9 @@
 -- An event of the keyboard ring as plain numbers. Its kind is the type in its 40 bytes, 0 for what is unknown. Numbers that an event
 -- doesn't have are zero.
-use Rattle.std.specs.Prelude.{ℕ, Bool, false, [], ◌∷◌, ℤ, pos}
+use Rattle.std.specs.Prelude.{ℕ, Bool, false, [], ◌∷◌, ℤ, pos, Result, Ok, Err}
+use Rattle.answers.specs.declared.Refusal.{Refusal}
 use Rattle.answers.specs.Answers.{done}
+use Rattle.answers.specs.Refusal.{number_of}
 use Rattle.kbdif_events.specs.Types.{xenkbd_type_motion, xenkbd_type_key, xenkbd_type_pos, xenkbd_type_mtouch, xenkbd_mt_ev_down}
 use Rattle.kbdif_events.specs.Types.{xenkbd_mt_ev_up, xenkbd_mt_ev_motion, xenkbd_mt_ev_syn, xenkbd_mt_ev_shape, xenkbd_mt_ev_orient}
 use Rattle.kbdif_events.specs.declared.RingEvent.{RingEvent}
@@ -117,3 +119,8 @@ found number event = record { answer = number; event = event }
 abbrev pub found_of : Decoded → FoundNumbers
 found_of (Event event) = found done (numbers_of event)
 found_of (Refused number) = found number no_numbers
+
+-- What the outcome of a decode or a take is answered by.
+abbrev pub outcome_found : Result RingNumbers Refusal → FoundNumbers
+outcome_found (Ok event) = found done event
+outcome_found (Err refusal) = found (number_of refusal) no_numbers

@@ -13,55 +13,54 @@ use kbdif_events::{
 fn touch_of(numbers: RingNumbers) -> RingEvent
     ensures { result ≡ touch_of numbers }
 {
-    let subtype = numbers.subtype;
-    let contact = numbers.contact;
+    let RingNumbers {
+        subtype,
+        contact,
+        x,
+        y,
+        major,
+        minor,
+        orientation,
+        ..
+    } = numbers;
     match subtype {
-        XENKBD_MT_EV_DOWN => RingEvent::TouchDown {
-            contact,
-            x: numbers.x,
-            y: numbers.y,
-        },
+        XENKBD_MT_EV_DOWN => RingEvent::TouchDown { contact, x, y },
         XENKBD_MT_EV_UP => RingEvent::TouchUp { contact },
-        XENKBD_MT_EV_MOTION => RingEvent::TouchMotion {
-            contact,
-            x: numbers.x,
-            y: numbers.y,
-        },
+        XENKBD_MT_EV_MOTION => RingEvent::TouchMotion { contact, x, y },
         XENKBD_MT_EV_SYN => RingEvent::TouchSyn { contact },
         XENKBD_MT_EV_SHAPE => RingEvent::TouchShape {
             contact,
-            major: numbers.major,
-            minor: numbers.minor,
+            major,
+            minor,
         },
         XENKBD_MT_EV_ORIENT => RingEvent::TouchOrient {
             contact,
-            orientation: numbers.orientation,
+            orientation,
         },
         _ => RingEvent::Unknown,
     }
 }
 
-#[tactic(auto, unfolding(crate::specs::Numbers::event_of, kbdif_decode::specs::Decode::lookup))]
-pub fn event_of(numbers: RingNumbers) -> RingEvent
-    ensures { result ≡ event_of numbers }
-{
-    let kind = numbers.kind;
-    match kind {
-        XENKBD_TYPE_MOTION => RingEvent::Motion {
-            x: numbers.x,
-            y: numbers.y,
-            z: numbers.z,
-        },
-        XENKBD_TYPE_KEY => RingEvent::Key {
-            pressed: numbers.pressed,
-            keycode: numbers.keycode,
-        },
-        XENKBD_TYPE_POS => RingEvent::Pos {
-            x: numbers.x,
-            y: numbers.y,
-            wheel: numbers.z,
-        },
-        XENKBD_TYPE_MTOUCH => touch_of(numbers),
-        _ => RingEvent::Unknown,
+impl From<RingNumbers> for RingEvent {
+    ghost from_gives = { λ numbers event. event ≡ event_of numbers };
+
+    #[tactic(auto, unfolding(crate::specs::Numbers::event_of, kbdif_decode::specs::Decode::lookup))]
+    fn from(numbers: RingNumbers) -> RingEvent {
+        let RingNumbers {
+            kind,
+            pressed,
+            x,
+            y,
+            z,
+            keycode,
+            ..
+        } = numbers;
+        match kind {
+            XENKBD_TYPE_MOTION => RingEvent::Motion { x, y, z },
+            XENKBD_TYPE_KEY => RingEvent::Key { pressed, keycode },
+            XENKBD_TYPE_POS => RingEvent::Pos { x, y, wheel: z },
+            XENKBD_TYPE_MTOUCH => touch_of(numbers),
+            _ => RingEvent::Unknown,
+        }
     }
 }

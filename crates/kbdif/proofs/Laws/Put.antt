@@ -2,7 +2,7 @@
 use Prim.Native.Nat.{ℕ, ◌+◌, ◌-◌, ◌≤◌, ◌<◌}
 use mathlib.Core.Path.{◌≡◌, ap, ◌∙◌}
 use mathlib.Core.Logic.{◌≢◌}
-use mathlib.Core.Bool.{Bool, true, false, not}
+use mathlib.Core.Bool.{Bool, true, not}
 use mathlib.Core.List.{List, [], ◌∷◌, ◌++◌}
 use native.Mathlib.Omega.{arith}
 use native.Mathlib.Decide.{dec_lt}
@@ -10,6 +10,8 @@ use lib.Dec.{eqb, ltb}
 use lib.ListN.{length, take, drop}
 use borrow.Author.Tests.{ne_eqb, lt-ltb, le-ltb, eqb-true, eqb-false, ltb-false, not-false}
 use Rattle.answers.specs.Answers.{done, invalid, malformed, bad_index, no_room}
+use Rattle.answers.specs.declared.Refusal.{Refusal}
+use Rattle.answers.specs.Refusal.{number_of}
 use Rattle.answers.specs.Refusals.{first_refusal}
 use Rattle.answers.proofs.Laws.{none_holds}
 use Rattle.copying.specs.Copying.{overwrite}
@@ -38,6 +40,22 @@ module _ {used number : ℕ} (is : number ≡ used) where
     | yes h ↦ rw (lt-ltb ring_length used h)
     | no h ↦ absurd (other (omega arith))
   ]
+
+-- ---- a refusal is never told as done
+
+pub number_not_done : (refusal : Refusal) → number_of refusal ≡ done → ⊥
+number_not_done Refusal.Invalid e = omega arith
+number_not_done Refusal.BadAccess e = omega arith
+number_not_done Refusal.ReadOnly e = omega arith
+number_not_done Refusal.NoRegister e = omega arith
+number_not_done Refusal.DeviceOff e = omega arith
+number_not_done Refusal.BadSlot e = omega arith
+number_not_done Refusal.NoRoom e = omega arith
+number_not_done Refusal.NotOffered e = omega arith
+number_not_done Refusal.Malformed e = omega arith
+number_not_done Refusal.BadIndex e = omega arith
+number_not_done Refusal.NothingToRead e = omega arith
+number_not_done Refusal.BadSetting e = omega arith
 
 module _ (page : List ℕ) (in_prod contact_limit : ℕ) (event : List ℕ) where
   -- what is known of a put that isn't refused

@@ -1,31 +1,29 @@
 -- A refusal leaves all as it was; past it an event waits, and what is read of its place is read before the index is written.
-use native.Mathlib.Omega.{arith}
-use mathlib.Core.Path.{sym, ◌∙◌}
-use Rattle.kbdif_page.proofs.Laws.Page.{limit_positive, limit_small}
-use Rattle.kbdif.proofs.Laws.Take.{waits, refusal_told, event_told}
-use borrow.Author.Rules.{rules}
+use Rattle.std.proofs.Common.{arith, refl, sym, ◌∙◌}
+use Rattle.std.proofs.lemmas.Result.{err_from_is_err_and}
+use Rattle.kbdif.proofs.Laws.Put.{number_not_done}
+use Rattle.kbdif.proofs.Laws.Take.{waits, refusal_told, event_told, outcome_number}
 use Rattle.kbdif.proofs.take.Goals as goal
 
-pub returns-then-answer-ne-DONE : goal.returns-then-answer-ne-DONE
-returns-then-answer-ne-DONE c =
-    let refused = refusal_told c.args.page.now c.args.in_cons c.args.contact_limit c.take_refusal-answer.ensures in
-    refused c.if-answer-ne-DONE.true c.refused.ensures
+pub returns-in_err-limit : goal.returns-in_err-limit
+returns-in_err-limit c =
+    let p = err_from_is_err_and c.from_residual.result c.from_residual.ensures.1 in
+    let refused = refusal_told c.args.page.now c.args.in_cons.now c.args.contact_limit c.in_err-limit.ensures.answer in
+    rw (p.1, p.2) (refused (number_not_done c.in_err-limit.field-0.0) refl)
 
-pub slice_bounds-form_of-end : goal.slice_bounds-form_of-end
-slice_bounds-form_of-end c =
-    let one = waits _ _ _ (sym c.take_refusal-answer.ensures ∙ c.if-answer-ne-DONE.false) in
-    omega (arith, c.event_place-at.ensures, one)
+pub event_at-event-requires : goal.event_at-event-requires
+event_at-event-requires c = (waits _ _ _ (sym c.in_ok-limit.ensures.answer)).is_page_length
 
-pub form_of-form-requires : goal.form_of-form-requires
-form_of-form-requires c =
-    let allowed = (waits _ _ _ (sym c.take_refusal-answer.ensures ∙ c.if-answer-ne-DONE.false)).limit_allowed in
-    (search rules, limit_positive _ allowed, omega (arith, limit_small _ allowed))
+pub write_u32-requires : goal.write_u32-requires
+write_u32-requires c =
+    let size = (waits _ _ _ (sym c.in_ok-limit.ensures.answer)).is_page_length in
+    omega arith
 
 pub returns : goal.returns
 returns c =
-    event_told c.args.page.now c.args.in_cons c.args.contact_limit (sym c.take_refusal-answer.ensures ∙ c.if-answer-ne-DONE.false)
-    c.event_place-at.ensures.0
-    c.form_of-form.ensures
-    c.found_as-found.ensures
-    c.next_index-next.ensures
-    c.write_u32.ensures
+    let limit = c.in_ok-limit.ensures.same in
+    let told = rw (c.event_at-event.ensures, limit) at c.decode-outcome.ensures in
+    let all = event_told c.args.page.now c.args.in_cons.now c.args.contact_limit (sym c.in_ok-limit.ensures.answer) told
+    c.next_index.ensures
+    c.write_u32.ensures in
+    (outcome_number c.decode-outcome.result ∙ all.0, all.1, all.2, all.3)

@@ -7,9 +7,8 @@ use mathlib.Core.List.{List}
 use native.Mathlib.Omega.{arith}
 use lib.Dec.{ltb, eqb}
 use lib.ListN.{length, get_or}
-use borrow.Author.Tests.{le-ltb}
-use mir.Syntax.{w8}
-use mir.Val.{Fits}
+use Rattle.std.specs.Prelude.{Ok, Err}
+use Rattle.answers.specs.declared.Refusal.{Refusal}
 use Rattle.words.specs.Words.{u32_at, IsBytes}
 use Rattle.kbdif_events.specs.declared.RingEvent.{RingEvent}
 use Rattle.kbdif_events.specs.Types.{xenkbd_type_motion, xenkbd_type_key, xenkbd_type_pos, xenkbd_type_mtouch, xenkbd_mt_ev_down}
@@ -18,12 +17,12 @@ use Rattle.kbdif_events.specs.Event.{event_length, between}
 use Rattle.kbdif_decode.specs.Reserved.{u64_at, all_zero, zero_outside}
 use Rattle.kbdif_events.specs.declared.RingEvent.TheVariants.{Motion, Key, Pos, TouchDown, TouchUp, TouchMotion}
 use Rattle.kbdif_events.specs.declared.RingEvent.TheVariants.{TouchSyn, TouchShape, TouchOrient, Unknown}
+use Rattle.kbdif_page.specs.declared.ContactLimit.{ContactLimit}
 use Rattle.kbdif_decode.specs.Decode.{Decoded, Event, Refused, lookup, event_at, decoded, may_be_put}
-use Rattle.kbdif_decode.specs.Form.{event_form, form_of}
-use Rattle.kbdif_decode.specs.declared.Form.{Form}
-use Rattle.kbdif_decode.specs.declared.Form.TheVariants.{Malformed, UnknownType, Pointer, KeyPress, Place, Contact, Axes}
-use Rattle.kbdif_decode.specs.declared.Form.TheVariants.{Orientation}
-use Rattle.kbdif_decode.proofs.Laws.Judged.{judged, motion_judged, position_judged, key_judged, unknown_found, down_judged}
+use Rattle.kbdif_decode.specs.declared.Form.{Form as FoundForm}
+use Rattle.kbdif_decode.specs.Form.{Form, Malformed, UnknownType, Pointer, KeyPress, Place, Contact, Axes, Orientation}
+use Rattle.kbdif_decode.specs.Form.{event_form, form_of, form_told, form_read}
+use Rattle.kbdif_decode.proofs.Laws.Judged.{judged, motion_judged, position_judged, key_judged, unknown_found, other_found, down_judged}
 use Rattle.kbdif_decode.proofs.Laws.Judged.{up_judged, touch_motion_judged, syn_judged, shape_judged, orientation_judged}
 use Rattle.kbdif_decode.proofs.Laws.Reserved.{tail_clear, no_fields, one_half, pointer_clear, key_clear, touch_clear}
 
@@ -108,12 +107,31 @@ pub record Lent (bytes : List ℕ) (contact_limit : ℕ) : Type 0 where
   pub some : 1 ≤ contact_limit
   pub small : contact_limit ≤ 256
 
+pub lent : (bytes : List ℕ) (limit : ContactLimit) → length bytes ≡ event_length → IsBytes bytes → Lent bytes limit.contacts
+lent bytes limit size are_bytes = record { size = size; are_bytes = are_bytes; some = limit.some; small = limit.small }
+
+-- a form that is checked is told as itself or as a refusal
+pub told_either : (clear : Bool) (form : Form) (found : Decoded) → form_of found ≡ cond clear form Malformed
+    → cond clear (form_told form) (form_told Malformed) ≡ form_told (form_of found)
+told_either true form found e = ap form_told (sym e)
+told_either false form found e = ap form_told (sym e)
+
 module _ {bytes : List ℕ} {contact_limit : ℕ} (lent : Lent bytes contact_limit) where
   -- types 0 and 2
   pub no_type : {kind : ℕ} → get_or bytes 0 0 ≡ kind → (kind ≡ 0) ⊎ (kind ≡ 2) → UnknownType ≡ form_of (decoded bytes contact_limit)
   unfolding event_at lookup
   no_type is (inl none) = sym (ap form_of (unknown_found bytes contact_limit lent.some (λ three. omega arith) (rw (is, none))))
   no_type is (inr two) = sym (ap form_of (unknown_found bytes contact_limit lent.some (λ three. omega arith) (rw (is, two))))
+
+  -- and a type past that of a position that is no touch
+  pub untyped : get_or bytes 0 0 ≢ xenkbd_type_mtouch
+      → (xenkbd_type_pos < get_or bytes 0 0)
+      ⊎ (((get_or bytes 0 0 ≤ xenkbd_type_pos) × (get_or bytes 0 0 ≡ 0))
+      ⊎ ((get_or bytes 0 0 ≤ xenkbd_type_pos) × (get_or bytes 0 0 ≢ 0) × (get_or bytes 0 0 ≡ 2)))
+      → UnknownType ≡ form_of (decoded bytes contact_limit)
+  untyped other (inl high) = sym (ap form_of (other_found bytes contact_limit lent.some high other))
+  untyped other (inr (inl none)) = no_type refl (inl none.1)
+  untyped other (inr (inr two)) = no_type refl (inr two.2)
 
   abbrev clear_tail : Bool
   clear_tail = tail_clear bytes lent.size
@@ -206,17 +224,24 @@ module _ {bytes : List ℕ} {contact_limit : ℕ} (lent : Lent bytes contact_lim
       unfolding told
       orientation_form is = orientation_told is ∙ rw (head, rest, and-true (ltb (u64_at bytes 8) 65536))
 
--- ---- two ways out of form_of, by what is compared there
+-- ---- what the code finds tells the form
 
-pub two_untyped : (bytes : List ℕ) (contact_limit : ℕ) → 1 ≤ contact_limit → get_or bytes 0 0 ≡ 2
-    → UnknownType ≡ form_of (decoded bytes contact_limit)
-unfolding event_at lookup
-two_untyped bytes contact_limit some two = sym (ap form_of (unknown_found bytes contact_limit some (λ three. omega arith) (rw two)))
+pub read_back : (form : Form) (found : FoundForm) → Ok found ≡ form_told form → form_read found ≡ form
+read_back Malformed found e = cc
+read_back UnknownType found e = cc
+read_back Pointer found e = cc
+read_back KeyPress found e = cc
+read_back Place found e = cc
+read_back Contact found e = cc
+read_back Axes found e = cc
+read_back Orientation found e = cc
 
-pub key_spoiled : (bytes : List ℕ) (contact_limit : ℕ) → length bytes ≡ event_length → ((i : ℕ) → Fits w8 (get_or bytes i 0))
-    → 1 ≤ contact_limit → contact_limit ≤ 256 → get_or bytes 0 0 ≡ xenkbd_type_key → 512 ≤ u32_at bytes 0
-    → Malformed ≡ form_of (decoded bytes contact_limit)
-unfolding told
-key_spoiled bytes contact_limit size fit some small kind high =
-    let lent : Lent bytes contact_limit = record { size = size; are_bytes = λ i. (fit i).fits; some = some; small = small } in
-    sym (key_form lent kind ∙ rw (le-ltb _ _ high))
+pub refused_back : (form : Form) (refusal : Refusal) → Err refusal ≡ form_told form → (form ≡ Malformed) × (refusal ≡ Refusal.Malformed)
+refused_back Malformed refusal e = (refl, cc)
+refused_back UnknownType refusal e = (cc, cc)
+refused_back Pointer refusal e = (cc, cc)
+refused_back KeyPress refusal e = (cc, cc)
+refused_back Place refusal e = (cc, cc)
+refused_back Contact refusal e = (cc, cc)
+refused_back Axes refusal e = (cc, cc)
+refused_back Orientation refusal e = (cc, cc)

@@ -1,26 +1,16 @@
 -- Each eight bytes are one conjunct of the stretch.
-use borrow.Author.Tests.{eq-eqb, ne_eqb}
+use Rattle.std.proofs.Common.{arith}
+use Rattle.std.proofs.lemmas.Grind.{common_steps}
+use Rattle.std.proofs.lemmas.Bool.Decides.{nat_tests}
 use Rattle.kbdif_decode.proofs.Laws.Reserved.{tail}
 use Rattle.kbdif_decode.proofs.tail_is_zero.Goals as goal
 
-pub returns-then-eight_at-ne0 : goal.returns-then-eight_at-ne0
-returns-then-eight_at-ne0 c = rw (tail c.args.bytes.now c.requires, ← c.eight_at.ensures, ne_eqb _ _ c.if-eight_at-ne0.true)
+pub returns-then-eight_at-eq0-2 : goal.returns-then-eight_at-eq0-2
+returns-then-eight_at-eq0-2 c =
+    let parts = tail c.args.bytes.now (omega arith) in
+    grind (arith, common_steps, nat_tests, parts)
 
-pub returns-then-eight_at-ne0-2 : goal.returns-then-eight_at-ne0-2
-returns-then-eight_at-ne0-2 c = rw (
-  tail c.args.bytes.now c.requires,
-  ← c.eight_at.ensures,
-  eq-eqb _ _ c.if-eight_at-ne0.false,
-  ← c.eight_at-2.ensures,
-  ne_eqb _ _ c.if-eight_at-ne0-2.true,
-)
-
-pub returns : goal.returns
-returns c = rw (
-  tail c.args.bytes.now c.requires,
-  ← c.eight_at.ensures,
-  eq-eqb _ _ c.if-eight_at-ne0.false,
-  ← c.eight_at-2.ensures,
-  eq-eqb _ _ c.if-eight_at-ne0-2.false,
-  c.eight_at-3.ensures,
-)
+pub returns-else-eight_at-eq0-2 : goal.returns-else-eight_at-eq0-2
+returns-else-eight_at-eq0-2 c =
+    let parts = tail c.args.bytes.now (omega arith) in
+    grind (arith, common_steps, nat_tests, parts)

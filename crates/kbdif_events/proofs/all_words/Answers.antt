@@ -1,8 +1,7 @@
 -- The head word has the three bytes, and the other words are stored as they come.
-use mathlib.Core.Path.{refl, ◌∙◌}
+use Rattle.std.proofs.Common.{arith}
 use Rattle.kbdif_events.proofs.Laws.{laid_out}
 use Rattle.kbdif_events.proofs.all_words.Goals as goal
 
 pub returns : goal.returns
-returns c = laid_out c.widen.result c.widen-2.result c.widen-3.result _ c.widen.ensures.1 c.widen-2.ensures.1 c.widen-3.ensures.1 refl
-    ∙ rw (c.widen.ensures.0, c.widen-2.ensures.0, c.widen-3.ensures.0)
+returns c = laid_out c.args.kind c.args.detail c.args.contact _ (omega arith) (omega arith) (omega arith) (omega arith)
