@@ -1,3 +1,2 @@
--- By subject: what every answer to closing keeps to, and the table of lacks as the code goes through it.
+-- What every answer to closing keeps to.
 pub mod Fit
-pub mod Tests

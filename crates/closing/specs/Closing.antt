@@ -1,11 +1,10 @@
 -- Closing the settings (01, "kbdif ring and nodes"): the modes, and what each needs.
-use Rattle.std.specs.Prelude.{ℕ, Bool, false, not, cond, ◌&&◌, List, [], ◌∷◌, leb}
+use Rattle.std.specs.Prelude.{ℕ, Bool, false, not, cond, ◌&&◌, List, [], ◌∷◌, Option, Some, None, leb}
 use Rattle.answers.specs.Answers.{done, bad_setting}
 use Rattle.node_names.specs.declared.NumberName.{NumberName}
 use Rattle.node_names.specs.declared.NumberName.TheVariants.{Width, Height, Contacts, TouchWidth, TouchHeight}
 use Rattle.nodes.specs.declared.Parameter.{Parameter}
 use Rattle.nodes.specs.declared.Settings.{Settings}
-use Rattle.closing.specs.declared.Lack.{Lack}
 use Rattle.closing.specs.declared.Closed.{Closed}
 
 -- A mode is on where the back end has the feature and the front end requests it.
@@ -44,9 +43,13 @@ lack_tests settings =
     ∷ (lacks (is_multi_touch settings) settings.touch_height.given, TouchHeight)
     ∷ []
 
+-- The first number that is needed and wasn't given as it has to be, if there is one.
+abbrev pub Lack : Type 0
+Lack = Option NumberName
+
 unfoldable pub first_lack : List (Bool × NumberName) → Lack
-first_lack [] = Lack.Nothing
-first_lack ((lack, name) ∷ rest) = cond lack (Lack.Of name) (first_lack rest)
+first_lack [] = None
+first_lack ((lack, name) ∷ rest) = cond lack (Some name) (first_lack rest)
 
 -- A number as it was given, and 0 where it wasn't.
 abbrev pub number_of : Parameter → ℕ
@@ -86,8 +89,8 @@ closed_as settings = record {
 
 -- A lack is 12.
 unfoldable pub unless_lacking : Lack → Closed → Closed
-unless_lacking Lack.Nothing closed = closed
-unless_lacking (Lack.Of name) closed = not_closed
+unless_lacking None closed = closed
+unless_lacking (Some name) closed = not_closed
 
 abbrev pub close_settings : Settings → Closed
 close_settings settings = unless_lacking (first_lack (lack_tests settings)) (closed_as settings)

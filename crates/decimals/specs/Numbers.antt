@@ -1,10 +1,18 @@
 -- Numbers as text (01, "kbdif ring and nodes"): 1 to 10 digits, no sign, no leading zero but "0", at most 4294967295.
 -- A text is read from its first byte on, up to the first byte that spoils it. An eleventh digit is among these: it makes the number too
 -- large.
-use Rattle.std.specs.Prelude.{ℕ, suc, ◌+◌, ◌-◌, ◌*◌, Bool, true, not, cond, ◌&&◌, ◌||◌, List, [], ◌∷◌, ltb, eqb, length, get_or}
+use Rattle.std.specs.Prelude.{ℕ, suc, ◌+◌, ◌-◌, ◌*◌, Bool, true, not, cond, ◌&&◌, ◌||◌, List, [], ◌∷◌, Result, Ok, Err}
+use Rattle.std.specs.Prelude.{ltb, eqb, length, get_or}
 use Rattle.answers.specs.Answers.{done, bad_setting}
-use Rattle.decimals.specs.declared.Number.{Number}
-use Rattle.decimals.specs.declared.Number.TheVariants.{Value, Bad}
+use Rattle.decimals.specs.declared.BadText.{BadText}
+
+-- What a text says: a number, or nothing, with the place of the first byte that spoils the text.
+abbrev pub Number : Type 0
+Number = Result ℕ BadText
+
+-- A text that is spoiled at a place.
+abbrev pub bad_at : ℕ → Number
+bad_at place = Err (record { place = place })
 
 -- The number with one more digit.
 abbrev pub with_digit : ℕ → ℕ → ℕ
@@ -27,27 +35,27 @@ spoils place value byte = no_digit byte || (follows_zero place value || too_larg
 
 -- What the text says up to a byte, which stands at a place.
 unfoldable pub next_number : ℕ → ℕ → ℕ → Number
-next_number place value byte = cond (spoils place value byte) (Bad place) (Value (with_digit value byte))
+next_number place value byte = cond (spoils place value byte) (bad_at place) (Ok (with_digit value byte))
 
 -- A text that is spoiled stays so.
 abbrev pub unless_bad : Number → (ℕ → Number) → Number
-unless_bad (Value value) go_on = go_on value
-unless_bad (Bad place) go_on = Bad place
+unless_bad (Ok value) go_on = go_on value
+unless_bad (Err bad) go_on = Err bad
 
 -- What the text says, where its bytes before a place say a number and the rest is still to be read.
 unfoldable pub read_rest : ℕ → ℕ → List ℕ → Number
-read_rest place value [] = Value value
+read_rest place value [] = Ok value
 read_rest place value (byte ∷ rest) = unless_bad (next_number place value byte) (λ next. read_rest (suc place) next rest)
 
 -- The number that a text says, or the place of the first byte that spoils it. An empty text is bad at its length.
 unfoldable pub read_number : List ℕ → Number
-read_number [] = Bad 0
+read_number [] = bad_at 0
 read_number (byte ∷ rest) = read_rest 0 0 (byte ∷ rest)
 
 -- 01's number of each: a text that says a number is 0, a bad one 12.
 abbrev pub answer_of : Number → ℕ
-answer_of (Value value) = done
-answer_of (Bad place) = bad_setting
+answer_of (Ok value) = done
+answer_of (Err bad) = bad_setting
 
 -- ---- which texts are bad
 

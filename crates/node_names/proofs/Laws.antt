@@ -1,2 +1,3 @@
--- One subject: two names compared.
+-- By subject: two names compared, and a name looked up in a table.
 pub mod Same
+pub mod Table

@@ -1,5 +1,6 @@
 -- The names of the nodes that are meant here (003, "Feature and Parameter Negotiation"). Others are ignored.
-use Rattle.std.specs.Prelude.{ℕ, Bool, true, false, cond, ◌&&◌, List, [], ◌∷◌, eqb}
+use Rattle.std.specs.Prelude.{ℕ, Bool, true, false, cond, ◌&&◌, List, [], ◌∷◌, eqb, map}
+use Rattle.std.specs.Borrow.{Bor}
 use Rattle.text.specs.Ascii.{ascii}
 use Rattle.node_names.specs.declared.FlagName.{FlagName}
 use Rattle.node_names.specs.declared.FlagName.TheVariants.{FeatureDisableKeyboard, FeatureDisablePointer}
@@ -16,6 +17,10 @@ same_bytes [] [] = true
 same_bytes [] (right ∷ rights) = false
 same_bytes (left ∷ lefts) [] = false
 same_bytes (left ∷ lefts) (right ∷ rights) = eqb left right && same_bytes lefts rights
+
+-- A table of the code: names, each with its node.
+abbrev pub rows : List (Bor (List ℕ) × Node) → List (List ℕ × Node)
+rows table = map (λ row. (row.0.now, row.1)) table
 
 -- The node of a name in a table, or what the name is where the table lacks it.
 unfoldable pub lookup : List ℕ → List (List ℕ × Node) → Node → Node

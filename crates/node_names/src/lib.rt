@@ -2,10 +2,11 @@
 #![tactic(auto)]
 
 ghost use Rattle.std.specs.Prelude.{◌≡◌};
-ghost use Rattle.node_names.specs.Names.{same_bytes, number_node, node_of};
+ghost use Rattle.node_names.specs.Names.{rows, lookup, node_of};
+ghost use Rattle.node_names.specs.declared.Node.TheVariants.{Other};
 
 // Nodes whose value is "0" or "1": the back end's features and the front end's requests.
-#[derive(Clone, Copy)]
+#[derive(Clone, Copy, Debug, PartialEq, Eq)]
 pub enum FlagName {
     FeatureDisableKeyboard,
     FeatureDisablePointer,
@@ -18,7 +19,7 @@ pub enum FlagName {
 }
 
 // Nodes whose value is a number.
-#[derive(Clone, Copy)]
+#[derive(Clone, Copy, Debug, PartialEq, Eq)]
 pub enum NumberName {
     Width,
     Height,
@@ -27,77 +28,51 @@ pub enum NumberName {
     TouchHeight,
 }
 
-#[derive(Clone, Copy)]
+// Kept: any other name is one case of the definition, which says that it is ignored (`node_of`).
+#[derive(Clone, Copy, Debug, PartialEq, Eq)]
 pub enum Node {
     Flag(FlagName),
     Number(NumberName),
     Other,
 }
 
-fn same_bytes(left: &[u8], right: &[u8]) -> bool
-    ensures { result ≡ same_bytes left.now right.now }
+use FlagName::*;
+use Node::{Flag, Number, Other};
+use NumberName::*;
+
+// The names that are meant, each with its node.
+static NODES: [(&[u8], Node); 13] = [
+    (b"feature-disable-keyboard", Flag(FeatureDisableKeyboard)),
+    (b"feature-disable-pointer", Flag(FeatureDisablePointer)),
+    (b"feature-abs-pointer", Flag(FeatureAbsPointer)),
+    (b"feature-multi-touch", Flag(FeatureMultiTouch)),
+    (b"feature-raw-pointer", Flag(FeatureRawPointer)),
+    (b"request-abs-pointer", Flag(RequestAbsPointer)),
+    (b"request-multi-touch", Flag(RequestMultiTouch)),
+    (b"request-raw-pointer", Flag(RequestRawPointer)),
+    (b"width", Number(Width)),
+    (b"height", Number(Height)),
+    (b"multi-touch-num-contacts", Number(Contacts)),
+    (b"multi-touch-width", Number(TouchWidth)),
+    (b"multi-touch-height", Number(TouchHeight)),
+];
+
+// The node of a name in a table, which counts whole. A name that the table lacks is another node's.
+fn lookup(table: &[(&[u8], Node)], name: &[u8]) -> Node
+    ensures { result ≡ lookup name.now (rows table.entry.now) Other }
 {
-    if left.len() != right.len() {
-        return false;
-    }
-    let mut i: usize = 0;
-    while i < left.len() {
-        if left[i] != right[i] {
-            return false;
+    for (known, node) in table {
+        if name == *known {
+            return *node;
         }
-        i += 1;
     }
-    true
+    Other
 }
 
-fn number_node(name: &[u8]) -> Node
-    ensures { result ≡ number_node name.now }
-{
-    if same_bytes(name, b"width") {
-        return Node::Number(NumberName::Width);
-    }
-    if same_bytes(name, b"height") {
-        return Node::Number(NumberName::Height);
-    }
-    if same_bytes(name, b"multi-touch-num-contacts") {
-        return Node::Number(NumberName::Contacts);
-    }
-    if same_bytes(name, b"multi-touch-width") {
-        return Node::Number(NumberName::TouchWidth);
-    }
-    if same_bytes(name, b"multi-touch-height") {
-        return Node::Number(NumberName::TouchHeight);
-    }
-    Node::Other
-}
-
-// The node of a name, which counts whole.
+// The table is the definition's two, one behind the other.
+#[tactic(auto, unfolding(crate::specs::Names::lookup, crate::specs::Names::number_node, crate::specs::Names::node_of))]
 pub fn node_of(name: &[u8]) -> Node
     ensures { result ≡ node_of name.now }
 {
-    if same_bytes(name, b"feature-disable-keyboard") {
-        return Node::Flag(FlagName::FeatureDisableKeyboard);
-    }
-    if same_bytes(name, b"feature-disable-pointer") {
-        return Node::Flag(FlagName::FeatureDisablePointer);
-    }
-    if same_bytes(name, b"feature-abs-pointer") {
-        return Node::Flag(FlagName::FeatureAbsPointer);
-    }
-    if same_bytes(name, b"feature-multi-touch") {
-        return Node::Flag(FlagName::FeatureMultiTouch);
-    }
-    if same_bytes(name, b"feature-raw-pointer") {
-        return Node::Flag(FlagName::FeatureRawPointer);
-    }
-    if same_bytes(name, b"request-abs-pointer") {
-        return Node::Flag(FlagName::RequestAbsPointer);
-    }
-    if same_bytes(name, b"request-multi-touch") {
-        return Node::Flag(FlagName::RequestMultiTouch);
-    }
-    if same_bytes(name, b"request-raw-pointer") {
-        return Node::Flag(FlagName::RequestRawPointer);
-    }
-    number_node(name)
+    lookup(&NODES, name)
 }

@@ -2,25 +2,18 @@
 #![tactic(auto)]
 
 ghost use Rattle.std.specs.Prelude.{◌≡◌};
+ghost use Rattle.answers.specs.Refusal.{answer_of};
 ghost use Rattle.answers.specs.Refusals.{first_refusal};
-ghost use Rattle.decimals.specs.Numbers.{read_number};
 ghost use Rattle.nodes.specs.Settings.{fresh_settings, with_flag, with_number};
-ghost use Rattle.nodes.specs.Nodes.{read_flag, flag_answer, flag_refusals, after_flag, after_number, read_node};
+ghost use Rattle.nodes.specs.Nodes.{read_flag, flag_answer, flag_refusals, read_node};
 
-use answers::{BAD_SETTING, DONE};
-use decimals::Number;
+use answers::Refusal;
+use decimals::BadText;
 use node_names::{FlagName, Node, NumberName};
 
-// What a flag's text says.
-#[derive(Clone, Copy)]
-enum Flag {
-    Value(bool),
-    // The place of the first byte that spoils the text.
-    Bad(usize),
-}
-
+// A number of C has its flag beside it: `thayarqo_parameter` is this struct.
 #[repr(C)]
-#[derive(Clone, Copy)]
+#[derive(Clone, Copy, Default)]
 pub struct Parameter {
     pub given: bool,
     pub value: u32,
@@ -28,7 +21,7 @@ pub struct Parameter {
 
 // What the nodes have said so far.
 #[repr(C)]
-#[derive(Clone, Copy)]
+#[derive(Clone, Copy, Default)]
 pub struct Settings {
     pub feature_disable_keyboard: bool,
     pub feature_disable_pointer: bool,
@@ -45,139 +38,71 @@ pub struct Settings {
     pub touch_height: Parameter,
 }
 
-#[repr(C)]
-#[derive(Clone, Copy)]
-pub struct NodeAnswer {
-    pub answer: u8,
-    pub settings: Settings,
-}
-
-pub fn fresh() -> Settings
-    ensures { result ≡ fresh_settings }
-{
-    let absent = Parameter {
-        given: false,
-        value: 0,
-    };
-    Settings {
-        feature_disable_keyboard: false,
-        feature_disable_pointer: false,
-        feature_abs_pointer: false,
-        feature_multi_touch: false,
-        feature_raw_pointer: false,
-        request_abs_pointer: false,
-        request_multi_touch: false,
-        request_raw_pointer: false,
-        width: absent,
-        height: absent,
-        contacts: absent,
-        touch_width: absent,
-        touch_height: absent,
-    }
-}
-
-fn read_flag(text: &[u8]) -> Flag
+// A flag is one byte, "0" or "1". The first byte that spoils the text comes before what follows it.
+#[tactic(auto, unfolding(answers::specs::Refusals::first_refusal), using(crate::proofs::Laws::Flags::flag_of_text))]
+fn read_flag(text: &[u8]) -> Result<bool, BadText>
     ensures { (flag_answer result ≡ first_refusal (flag_refusals text.now)) × (result ≡ read_flag text.now) }
 {
-    if text.len() == 0 {
-        return Flag::Bad(0);
-    }
-    let byte = text[0];
-    if byte < 48 {
-        return Flag::Bad(0);
-    }
-    if byte > 49 {
-        return Flag::Bad(0);
-    }
-    if text.len() > 1 {
-        return Flag::Bad(1);
-    }
-    Flag::Value(byte == 49)
-}
-
-// Each arm stores the field that the definition's line for this name sets.
-#[tactic(auto, unfolding(crate::specs::Settings::with_flag))]
-fn with_flag(mut settings: Settings, name: FlagName, value: bool) -> Settings
-    ensures { result ≡ with_flag settings name value }
-{
-    match name {
-        FlagName::FeatureDisableKeyboard => settings.feature_disable_keyboard = value,
-        FlagName::FeatureDisablePointer => settings.feature_disable_pointer = value,
-        FlagName::FeatureAbsPointer => settings.feature_abs_pointer = value,
-        FlagName::FeatureMultiTouch => settings.feature_multi_touch = value,
-        FlagName::FeatureRawPointer => settings.feature_raw_pointer = value,
-        FlagName::RequestAbsPointer => settings.request_abs_pointer = value,
-        FlagName::RequestMultiTouch => settings.request_multi_touch = value,
-        FlagName::RequestRawPointer => settings.request_raw_pointer = value,
-    }
-    settings
-}
-
-// Each arm stores the parameter in the field that the definition's line for this name sets.
-#[tactic(auto, unfolding(crate::specs::Settings::with_number))]
-fn with_number(mut settings: Settings, name: NumberName, value: u32) -> Settings
-    ensures { result ≡ with_number settings name value }
-{
-    let parameter = Parameter {
-        given: true,
-        value: value,
-    };
-    match name {
-        NumberName::Width => settings.width = parameter,
-        NumberName::Height => settings.height = parameter,
-        NumberName::Contacts => settings.contacts = parameter,
-        NumberName::TouchWidth => settings.touch_width = parameter,
-        NumberName::TouchHeight => settings.touch_height = parameter,
-    }
-    settings
-}
-
-// Where the text says a flag it is stored; else the settings stay.
-#[tactic(auto, unfolding(crate::specs::Nodes::after_flag))]
-fn read_flag_node(settings: Settings, name: FlagName, value: &[u8]) -> NodeAnswer
-    ensures { result ≡ after_flag settings name (read_flag value.now) }
-{
-    let Flag::Value(flag) = read_flag(value) else {
-        return NodeAnswer {
-            answer: BAD_SETTING,
-            settings: settings,
-        };
-    };
-    NodeAnswer {
-        answer: DONE,
-        settings: with_flag(settings, name, flag),
+    match text {
+        [b'0'] => Ok(false),
+        [b'1'] => Ok(true),
+        [b'0' | b'1', ..] => Err(BadText { place: 1 }),
+        _ => Err(BadText { place: 0 }),
     }
 }
 
-// Where the text says a number it is stored; else the settings stay.
-#[tactic(auto, unfolding(crate::specs::Nodes::after_number))]
-fn read_number_node(settings: Settings, name: NumberName, value: &[u8]) -> NodeAnswer
-    ensures { result ≡ after_number settings name (read_number value.now) }
-{
-    let Number::Value(number) = decimals::read_number(value) else {
-        return NodeAnswer {
-            answer: BAD_SETTING,
-            settings: settings,
-        };
-    };
-    NodeAnswer {
-        answer: DONE,
-        settings: with_number(settings, name, number),
+impl Settings {
+    // Before any node: no flag is on, and no number is given.
+    pub fn fresh() -> Settings
+        ensures { result ≡ fresh_settings }
+    {
+        Settings::default()
     }
-}
 
-// Reads one node. A refusal hands the settings back as they were. What the name is decides: a flag and a number have a reader of
-// their own, and any other name leaves the settings.
-#[tactic(auto, unfolding(crate::specs::Nodes::after_node))]
-pub fn read_node(settings: Settings, name: &[u8], value: &[u8]) -> NodeAnswer
-    ensures { result ≡ read_node settings name.now value.now }
-{
-    match node_names::node_of(name) {
-        Node::Flag(flag) => read_flag_node(settings, flag, value),
-        Node::Number(number) => read_number_node(settings, number, value),
-        Node::Other => NodeAnswer {
-            answer: DONE,
-            settings: settings,
-        },
+    // Each arm stores the field that the definition's line for this name sets. Kept beside set_number: the names are of two enums and the
+    // fields of two types, so one function for both would need a trait with these two matches in it.
+    #[tactic(auto, unfolding(crate::specs::Settings::with_flag))]
+    fn set_flag(&mut self, name: FlagName, value: bool)
+        ensures { self.new ≡ with_flag self.old name value }
+    {
+        match name {
+            FlagName::FeatureDisableKeyboard => self.feature_disable_keyboard = value,
+            FlagName::FeatureDisablePointer => self.feature_disable_pointer = value,
+            FlagName::FeatureAbsPointer => self.feature_abs_pointer = value,
+            FlagName::FeatureMultiTouch => self.feature_multi_touch = value,
+            FlagName::FeatureRawPointer => self.feature_raw_pointer = value,
+            FlagName::RequestAbsPointer => self.request_abs_pointer = value,
+            FlagName::RequestMultiTouch => self.request_multi_touch = value,
+            FlagName::RequestRawPointer => self.request_raw_pointer = value,
+        }
+    }
+
+    // As set_flag. One generic function would need a trait for the two kinds of names, with these same two matches in its impls.
+    #[tactic(auto, unfolding(crate::specs::Settings::with_number))]
+    fn set_number(&mut self, name: NumberName, value: u32)
+        ensures { self.new ≡ with_number self.old name value }
+    {
+        let parameter = Parameter { given: true, value };
+        match name {
+            NumberName::Width => self.width = parameter,
+            NumberName::Height => self.height = parameter,
+            NumberName::Contacts => self.contacts = parameter,
+            NumberName::TouchWidth => self.touch_width = parameter,
+            NumberName::TouchHeight => self.touch_height = parameter,
+        }
+    }
+
+    // Reads one node. A refusal leaves the settings as they were, and so does a name that is not meant here.
+    #[tactic(auto, unfolding(crate::specs::Nodes::after_flag, crate::specs::Nodes::after_number, crate::specs::Nodes::after_node))]
+    pub fn read_node(&mut self, name: &[u8], value: &[u8]) -> Result<(), Refusal>
+        ensures answer { answer_of result ≡ (read_node self.old name.now value.now).answer }
+        ensures settings { self.new ≡ (read_node self.old name.now value.now).settings }
+    {
+        match node_names::node_of(name) {
+            Node::Flag(flag) => self.set_flag(flag, read_flag(value)?),
+            Node::Number(number) => self.set_number(number, decimals::read_number(value)?),
+            Node::Other => {}
+        }
+        Ok(())
     }
 }

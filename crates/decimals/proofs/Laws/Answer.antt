@@ -1,7 +1,8 @@
 -- 01's number of a text: it is 12 just where the text breaks one of the rules.
 use Prim.Native.Nat.{ℕ, suc, ◌≤◌, ◌<◌}
 use mathlib.Core.Path.{◌≡◌, refl, ap, ◌∙◌}
-use mathlib.Core.Bool.{Bool, true, false, not, cond, ◌&&◌, ◌||◌}
+use mathlib.Core.Bool.{Bool, true, false, not, cond, ◌&&◌, and-false, or-true}
+use Rattle.std.proofs.lemmas.Bool.{or_parts}
 use mathlib.Core.List.{List, [], ◌∷◌}
 use native.Mathlib.Omega.{arith}
 use lib.Dec.{ltb, eqb}
@@ -9,11 +10,10 @@ use lib.ListN.{length}
 use borrow.Author.Tests.{lt-ltb, le-ltb, eq-eqb, ne_eqb, ltb-true, ltb-false, eqb-true, eqb-false}
 use Rattle.answers.specs.Answers.{bad_setting}
 use Rattle.answers.specs.Refusals.{first_refusal}
-use Rattle.decimals.specs.declared.Number.{Number}
-use Rattle.decimals.specs.declared.Number.TheVariants.{Value, Bad}
+use Rattle.std.specs.Prelude.{Ok, Err}
 use Rattle.decimals.specs.Numbers.{with_digit, no_digit, follows_zero, too_large, spoils, next_number, read_rest, read_number}
-use Rattle.decimals.specs.Numbers.{answer_of, all_digits, said_by, has_leading_zero, text_refusals}
-use Rattle.decimals.proofs.Laws.Step.{neither, later-fine}
+use Rattle.decimals.specs.Numbers.{Number, answer_of, all_digits, said_by, has_leading_zero, text_refusals}
+use Rattle.decimals.proofs.Laws.Step.{later-fine}
 use Rattle.decimals.proofs.Laws.Exact.{accepted-length}
 
 -- more digits don't make a number smaller
@@ -25,14 +25,6 @@ grows value (byte ∷ rest) = omega (arith, grows (with_digit value byte) rest)
 either_way : (test : Bool) (number : ℕ) → number ≡ cond test number number
 either_way true number = refl
 either_way false number = refl
-
-and_false : (test : Bool) → test && false ≡ false
-and_false true = refl
-and_false false = refl
-
-or_true : (test : Bool) → test || true ≡ true
-or_true true = refl
-or_true false = refl
 
 -- ---- the bytes after the first
 
@@ -78,7 +70,7 @@ no_digit-first byte rest e = rw e
 module _ (byte : ℕ) (digit : no_digit byte ≡ false) where
   range : (48 ≤ byte) × (byte ≤ 57)
   range =
-      let parts = neither (ltb byte 48) (ltb 57 byte) digit in
+      let parts = or_parts (ltb byte 48) (ltb 57 byte) digit in
       (ltb-false byte 48 parts.0, ltb-false 57 byte parts.1)
 
   small : too_large (with_digit 0 byte) ≡ false
@@ -86,14 +78,14 @@ module _ (byte : ℕ) (digit : no_digit byte ≡ false) where
 
   alone : Answered (byte ∷ [])
   unfolding read_rest next_number spoils follows_zero all_digits said_by first_refusal
-  alone = rw (digit, small, and_false (eqb byte 48))
+  alone = rw (digit, small, and-false (eqb byte 48))
 
   zero_first : (next : ℕ) (rest : List ℕ) → eqb byte 48 ≡ true → Answered (byte ∷ next ∷ rest)
   unfolding read_rest next_number spoils follows_zero all_digits said_by first_refusal
   zero_first next rest e =
       let nothing : with_digit 0 byte ≡ 0 = omega (arith, eqb-true byte 48 e) in
       let several = lt-ltb 1 (length (byte ∷ next ∷ rest)) (omega arith) in
-      rw (digit, small, e, eq-eqb (with_digit 0 byte) 0 nothing, or_true (no_digit next), several)
+      rw (digit, small, e, eq-eqb (with_digit 0 byte) 0 nothing, or-true (no_digit next), several)
       (either_way (not (not (no_digit next) && all_digits rest)) bad_setting)
 
   other_first : (rest : List ℕ) → eqb byte 48 ≡ false → Answered (byte ∷ rest)
@@ -112,8 +104,8 @@ first_byte byte rest true e = no_digit-first byte rest e
 first_byte byte rest false e = first_digit byte rest (eqb byte 48) refl e
 
 too_long : (text : List ℕ) (number : Number) → read_number text ≡ number → 10 < length text → answer_of number ≡ bad_setting
-too_long text (Value value) e long = let few = accepted-length text value e in absurd (omega (arith, few.1))
-too_long text (Bad place) e long = refl
+too_long text (Ok value) e long = let few = accepted-length text value e in absurd (omega (arith, few.1))
+too_long text (Err bad) e long = refl
 
 text_answer : (text : List ℕ) → answer_of (read_number text) ≡ first_refusal (text_refusals text)
 unfolding read_number first_refusal

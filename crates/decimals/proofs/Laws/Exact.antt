@@ -9,18 +9,17 @@ use native.Mathlib.Nat.{add-zero}
 use lib.ListN.{length, length-append}
 use Rattle.text.specs.Text.{decimal}
 use Rattle.text.proofs.Laws.Digits.{decimal-length}
-use Rattle.decimals.specs.declared.Number.{Number}
-use Rattle.decimals.specs.declared.Number.TheVariants.{Value, Bad}
-use Rattle.decimals.specs.Numbers.{next_number, unless_bad, read_rest, read_number}
-use Rattle.decimals.proofs.Laws.Decimal.{decimal_one, decimal_more}
+use Rattle.std.specs.Prelude.{Ok, Err}
+use Rattle.decimals.specs.Numbers.{Number, next_number, unless_bad, read_rest, read_number}
+use Rattle.text.proofs.Laws.Decimal.{decimal_one, decimal_more}
 use Rattle.decimals.proofs.Laws.Step.{Digit, is_digit, some_before, digit_accepted, first_fine, later-fine}
 use Rattle.decimals.proofs.Laws.Reading.{reading_begins}
 
 -- where the rest was read, one byte more was
-went_on : (number : Number) (go_on : ℕ → Number) (value : ℕ) → unless_bad number go_on ≡ Value value
-    → (next : ℕ) × (number ≡ Value next) × (go_on next ≡ Value value)
-went_on (Value next) go_on value h = (next, refl, h)
-went_on (Bad place) go_on value h = let z : ◌≡◌ {A = ℕ} 0 1 = cc in absurd (omega arith)
+went_on : (number : Number) (go_on : ℕ → Number) (value : ℕ) → unless_bad number go_on ≡ Ok value
+    → (next : ℕ) × (number ≡ Ok next) × (go_on next ≡ Ok value)
+went_on (Ok next) go_on value h = (next, refl, h)
+went_on (Err bad) go_on value h = absurd cc
 
 -- ---- what is accepted is a number in decimal
 
@@ -38,7 +37,7 @@ module _ {value byte next : ℕ} (digit : Digit value byte next) where
       let same : next ≡ byte - 48 = omega (arith, digit.more) in
       rw same (decimal_one (byte - 48) (omega arith) ∙ rw byte_text)
 
-rest_accepted : (text : List ℕ) (place value n : ℕ) → value < 2 ^ 32 → read_rest (suc place) value text ≡ Value n
+rest_accepted : (text : List ℕ) (place value n : ℕ) → value < 2 ^ 32 → read_rest (suc place) value text ≡ Ok n
     → (n < 2 ^ 32) × (decimal value ++ text ≡ decimal n)
 unfolding read_rest
 rest_accepted [] place value n small h = let same : value ≡ n = cc in (omega arith, append-nil (decimal value) ∙ ap decimal same)
@@ -50,9 +49,9 @@ rest_accepted (byte ∷ rest) place value n small h =
     let tail = rest_accepted rest (suc place) next n digit.small more.2 in
     (tail.0, sym (append_assoc (decimal value) (byte ∷ []) rest) ∙ rw (more_text digit some) at tail.1)
 
-accepted : (text : List ℕ) (n : ℕ) → read_number text ≡ Value n → (n < 2 ^ 32) × (text ≡ decimal n)
+accepted : (text : List ℕ) (n : ℕ) → read_number text ≡ Ok n → (n < 2 ^ 32) × (text ≡ decimal n)
 unfolding read_number read_rest
-accepted [] n h = let z : ◌≡◌ {A = ℕ} 0 1 = cc in absurd (omega arith)
+accepted [] n h = absurd cc
 accepted (byte ∷ rest) n h =
     let more = went_on (next_number 0 0 byte) _ n h in
     let next : ℕ = more.0 in
@@ -62,9 +61,9 @@ accepted (byte ∷ rest) n h =
 
 -- ---- a number in decimal is accepted
 
-read_more : (text : List ℕ) (place value n byte next : ℕ) → read_rest place value text ≡ Value n
-    → next_number (place + length text) n byte ≡ Value next
-    → read_rest place value (text ++ (byte ∷ [])) ≡ Value next
+read_more : (text : List ℕ) (place value n byte next : ℕ) → read_rest place value text ≡ Ok n
+    → next_number (place + length text) n byte ≡ Ok next
+    → read_rest place value (text ++ (byte ∷ [])) ≡ Ok next
 unfolding read_rest
 read_more [] place value n byte next h said = let same : value ≡ n = cc in rw (same, ← add-zero place, said)
 read_more (first ∷ rest) place value n byte next h said =
@@ -74,12 +73,12 @@ read_more (first ∷ rest) place value n byte next h said =
 
 -- the text isn't empty, and its digits are read
 Reads : ℕ → Type 0
-Reads n = (0 < length (decimal n)) × (read_rest 0 0 (decimal n) ≡ Value n)
+Reads n = (0 < length (decimal n)) × (read_rest 0 0 (decimal n) ≡ Ok n)
 
 one_digit : (n : ℕ) → n < 10 → Reads n
 unfolding Reads read_rest
 one_digit n one =
-    let said : next_number 0 0 (48 + n) ≡ Value (0 * 10 + n) = digit_accepted 0 0 n one (omega arith) (first_fine 0) in
+    let said : next_number 0 0 (48 + n) ≡ Ok (0 * 10 + n) = digit_accepted 0 0 n one (omega arith) (first_fine 0) in
     let same : 0 * 10 + n ≡ n = omega arith in
     rw (decimal_one n one) (omega arith, rw (said, same))
 
@@ -106,7 +105,7 @@ decimal-reads (suc bound) n h small =
     ]
 
 -- Exactly the decimals of 0 to 4294967295 are accepted, and each says its number.
-pub read_exactly : (text : List ℕ) (n : ℕ) → (read_number text ≡ Value n) ↔ ((n < 2 ^ 32) × (text ≡ decimal n))
+pub read_exactly : (text : List ℕ) (n : ℕ) → (read_number text ≡ Ok n) ↔ ((n < 2 ^ 32) × (text ≡ decimal n))
 unfolding Reads
 read_exactly text n = (
   accepted text n,
@@ -116,10 +115,10 @@ read_exactly text n = (
 )
 
 -- what was written is read back
-pub read_back : (n : ℕ) → n < 2 ^ 32 → read_number (decimal n) ≡ Value n
+pub read_back : (n : ℕ) → n < 2 ^ 32 → read_number (decimal n) ≡ Ok n
 read_back n small = (read_exactly (decimal n) n).1 (small, refl)
 
-pub accepted-length : (text : List ℕ) (n : ℕ) → read_number text ≡ Value n → (1 ≤ length text) × (length text ≤ 10)
+pub accepted-length : (text : List ℕ) (n : ℕ) → read_number text ≡ Ok n → (1 ≤ length text) × (length text ≤ 10)
 unfolding Reads
 accepted-length text n said =
     let right = (read_exactly text n).0 said in

@@ -4,17 +4,16 @@ use mathlib.Core.Path.{◌≡◌, refl, ap}
 use mathlib.Core.Bool.{Bool}
 use mathlib.Core.List.{List}
 use native.Mathlib.Omega.{arith}
+use Rattle.std.specs.Prelude.{Ok, Err}
 use Rattle.answers.specs.Answers.{done}
-use Rattle.decimals.specs.declared.Number.{Number}
-use Rattle.decimals.specs.Numbers.{read_number}
+use Rattle.decimals.specs.Numbers.{Number, read_number}
 use Rattle.node_names.specs.declared.FlagName.{FlagName}
 use Rattle.node_names.specs.declared.NumberName.{NumberName}
 use Rattle.node_names.specs.declared.Node.{Node}
 use Rattle.node_names.specs.Names.{node_of}
-use Rattle.nodes.specs.declared.Flag.{Flag}
 use Rattle.nodes.specs.declared.Settings.{Settings}
 use Rattle.nodes.specs.Settings.{with_flag, with_number}
-use Rattle.nodes.specs.Nodes.{accepted, read_flag, after_flag, after_number, after_node, read_node}
+use Rattle.nodes.specs.Nodes.{Flag, accepted, read_flag, after_flag, after_number, after_node, read_node}
 
 flag_replaced : (settings : Settings) (name : FlagName) (first second : Bool)
     → with_flag (with_flag settings name first) name second ≡ with_flag settings name second
@@ -40,16 +39,16 @@ number_replaced settings NumberName.TouchHeight first second = refl
 flag_again : (settings : Settings) (name : FlagName) (first second : Flag) → (after_flag settings name second).answer ≡ done
     → after_flag (after_flag settings name first).settings name second ≡ after_flag settings name second
 unfolding after_flag
-flag_again settings name (Flag.Value first) (Flag.Value second) h = ap accepted (flag_replaced settings name first second)
-flag_again settings name (Flag.Bad place) (Flag.Value second) h = refl
-flag_again settings name first (Flag.Bad place) h = absurd (omega arith)
+flag_again settings name (Ok first) (Ok second) h = ap accepted (flag_replaced settings name first second)
+flag_again settings name (Err bad) (Ok second) h = refl
+flag_again settings name first (Err bad) h = absurd (omega arith)
 
 number_again : (settings : Settings) (name : NumberName) (first second : Number) → (after_number settings name second).answer ≡ done
     → after_number (after_number settings name first).settings name second ≡ after_number settings name second
 unfolding after_number
-number_again settings name (Number.Value first) (Number.Value second) h = ap accepted (number_replaced settings name first second)
-number_again settings name (Number.Bad place) (Number.Value second) h = refl
-number_again settings name first (Number.Bad place) h = absurd (omega arith)
+number_again settings name (Ok first) (Ok second) h = ap accepted (number_replaced settings name first second)
+number_again settings name (Err bad) (Ok second) h = refl
+number_again settings name first (Err bad) h = absurd (omega arith)
 
 node_again : (settings : Settings) (node : Node) (first second : List ℕ) → (after_node settings node second).answer ≡ done
     → after_node (after_node settings node first).settings node second ≡ after_node settings node second

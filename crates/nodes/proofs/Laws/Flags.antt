@@ -5,27 +5,23 @@ use mathlib.Core.Bool.{Bool, true, false, cond}
 use mathlib.Core.Logic.{◌↔◌}
 use mathlib.Core.List.{List, [], ◌∷◌}
 use native.Mathlib.Omega.{arith}
+use Rattle.std.specs.Prelude.{Ok}
 use borrow.Author.Tests.{lt-ltb, ltb-false, ne_eqb, eqb-true, eqb-false}
 use lib.Dec.{ltb, eqb}
 use lib.ListN.{length, get_or}
 use Rattle.answers.specs.Refusals.{first_refusal}
 use Rattle.text.specs.Ascii.{ascii}
-use Rattle.decimals.proofs.Laws.Step.{neither}
-use Rattle.nodes.specs.declared.Flag.{Flag}
-use Rattle.nodes.specs.Nodes.{no_flag, read_flag, flag_answer, flag_refusals}
+use Rattle.std.proofs.lemmas.Bool.{or_parts}
+use Rattle.nodes.specs.Nodes.{Flag, bad_at, no_flag, read_flag, flag_answer, flag_refusals}
 
-pub flag_of_nothing : (text : List ℕ) → length text ≡ 0 → Flag.Bad 0 ≡ read_flag text
+pub flag_of_text : (text : List ℕ) → read_flag text
+    ≡ cond (eqb (length text) 0) (bad_at 0) (cond (no_flag (get_or text 0 0)) (bad_at 0)
+    (cond (ltb 1 (length text)) (bad_at 1) (Ok (eqb (get_or text 0 0) 49))))
 unfolding read_flag
-flag_of_nothing [] h = refl
-flag_of_nothing (byte ∷ rest) h = absurd (omega arith)
-
-pub flag_of_text : (text : List ℕ) → (length text ≡ 0 → ⊥)
-    → read_flag text
-    ≡ cond (no_flag (get_or text 0 0)) (Flag.Bad 0) (cond (ltb 1 (length text)) (Flag.Bad 1) (Flag.Value (eqb (get_or text 0 0) 49)))
-unfolding read_flag
-flag_of_text [] h = absurd (h refl)
-flag_of_text (byte ∷ []) h = refl
-flag_of_text (byte ∷ next ∷ rest) h = rw (lt-ltb 1 (length (byte ∷ next ∷ rest)) (omega arith))
+flag_of_text [] = refl
+flag_of_text (byte ∷ []) = refl
+flag_of_text (byte ∷ next ∷ rest) =
+    rw (ne_eqb (length (byte ∷ next ∷ rest)) 0 (λ z. omega arith), lt-ltb 1 (length (byte ∷ next ∷ rest)) (omega arith))
 
 -- ---- 01's number of a text
 
@@ -55,35 +51,35 @@ answered text e = (ap flag_answer e ∙ text_answer text, e)
 abbrev pub flag_text : Bool → List ℕ
 flag_text on = cond on (ascii "1") (ascii "0")
 
-bad_or : (test : Bool) (place : ℕ) (on : Bool) → cond test (Flag.Bad 0) (Flag.Bad place) ≡ Flag.Value on → ⊥
-bad_or true place on h = let z : ◌≡◌ {A = ℕ} 0 1 = cc in omega arith
-bad_or false place on h = let z : ◌≡◌ {A = ℕ} 0 1 = cc in omega arith
+bad_or : (test : Bool) (place : ℕ) (on : Bool) → cond test (bad_at 0) (bad_at place) ≡ Ok on → ⊥
+bad_or true place on h = cc
+bad_or false place on h = cc
 
-value_said : (test value on : Bool) → cond test (Flag.Bad 0) (Flag.Value value) ≡ Flag.Value on → (test ≡ false) × (value ≡ on)
-value_said true value on h = let z : ◌≡◌ {A = ℕ} 0 1 = cc in absurd (omega arith)
+value_said : (test value on : Bool) → cond test (bad_at 0) (Ok value) ≡ Ok on → (test ≡ false) × (value ≡ on)
+value_said true value on h = absurd cc
 value_said false value on h = (refl, cc)
 
 flag_byte : (byte : ℕ) (on : Bool) → no_flag byte ≡ false → eqb byte 49 ≡ on → byte ∷ [] ≡ flag_text on
 flag_byte byte true fine said = ap (λ (b : ℕ). b ∷ []) (eqb-true byte 49 said)
 flag_byte byte false fine said =
-    let range = neither (ltb byte 48) (ltb 49 byte) fine in
+    let range = or_parts (ltb byte 48) (ltb 49 byte) fine in
     let low : 48 ≤ byte = ltb-false byte 48 range.0 in
     let high : byte ≤ 49 = ltb-false 49 byte range.1 in
     let zero-byte : byte ≡ 48 = omega (arith, eqb-false byte 49 said) in
     ap (λ (b : ℕ). b ∷ []) zero-byte
 
-flag_accepted : (text : List ℕ) (on : Bool) → read_flag text ≡ Flag.Value on → text ≡ flag_text on
+flag_accepted : (text : List ℕ) (on : Bool) → read_flag text ≡ Ok on → text ≡ flag_text on
 unfolding read_flag
-flag_accepted [] on h = let z : ◌≡◌ {A = ℕ} 0 1 = cc in absurd (omega arith)
+flag_accepted [] on h = absurd cc
 flag_accepted (byte ∷ []) on h =
     let said = value_said (no_flag byte) (eqb byte 49) on h in
     flag_byte byte on said.0 said.1
 flag_accepted (byte ∷ next ∷ rest) on h = absurd (bad_or (no_flag byte) 1 on h)
 
-flag_back : (on : Bool) → read_flag (flag_text on) ≡ Flag.Value on
+flag_back : (on : Bool) → read_flag (flag_text on) ≡ Ok on
 unfolding read_flag
 flag_back true = refl
 flag_back false = refl
 
-pub flag_exactly : (text : List ℕ) (on : Bool) → (read_flag text ≡ Flag.Value on) ↔ (text ≡ flag_text on)
+pub flag_exactly : (text : List ℕ) (on : Bool) → (read_flag text ≡ Ok on) ↔ (text ≡ flag_text on)
 flag_exactly text on = (flag_accepted text on, λ same. rw same (flag_back on))
