@@ -8,6 +8,7 @@ ghost use Rattle.packets.specs.Rule.{packet_of};
 ghost use Rattle.hotplug.specs.Add.{add_of};
 ghost use Rattle.hotplug.specs.Remove.{remove_of};
 
+use answers::answer_of;
 use device::Device;
 use geometry::Geometry;
 
@@ -15,7 +16,7 @@ use geometry::Geometry;
 pub extern "C" fn thayarqo_fresh_device() -> Device
     ensures { result ≡ fresh_device }
 {
-    device::fresh()
+    Device::fresh()
 }
 
 #[unsafe(no_mangle)]
@@ -34,7 +35,7 @@ pub extern "C" fn thayarqo_put_packet(
     // All that a packet changes. To store the rest, too, it would have to be held through the call.
     device.registers.isr = out.device.registers.isr;
     device.producer = out.device.producer;
-    out.answer
+    answer_of(out.answer)
 }
 
 #[unsafe(no_mangle)]
@@ -52,7 +53,7 @@ pub extern "C" fn thayarqo_add(
 {
     let out = hotplug::add_rule(*device, geometry, area, page, slot, entry);
     *device = out.device;
-    out.answer
+    answer_of(out.answer)
 }
 
 #[unsafe(no_mangle)]
@@ -69,5 +70,5 @@ pub extern "C" fn thayarqo_remove(
 {
     let out = hotplug::remove_rule(*device, geometry, area, page, slot);
     *device = out.device;
-    out.answer
+    answer_of(out.answer)
 }

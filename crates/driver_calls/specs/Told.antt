@@ -1,11 +1,22 @@
 -- What a step tells, as numbers: the answer, what was told, and the slot and the count of events where it has them.
 use Rattle.std.specs.Prelude.{ℕ}
-use Rattle.assembly.specs.declared.Stepped.{Stepped}
-use Rattle.assembly.specs.declared.Told.{Told}
-use Rattle.assembly.specs.declared.Told.TheVariants as told
+use Rattle.assembly.specs.Told.{Told}
+use Rattle.assembly.specs.Told as told
 use Rattle.assembly.specs.Transition.{answer_of}
 use Rattle.driver_calls.specs.declared.StepAnswer.{StepAnswer}
-use Rattle.driver_calls.specs.declared.StepOutcome.{StepOutcome}
+use Rattle.driver_calls.specs.declared.What.{What}
+use Rattle.driver_calls.specs.declared.What.TheVariants as what
+
+-- The number of each thing that a step tells.
+abbrev pub what_number : What → ℕ
+what_number what.Nothing = 0
+what_number what.Gap = 1
+what_number what.EmptyReport = 2
+what_number what.Packet = 3
+what_number what.Set = 4
+what_number what.Conf = 5
+what_number what.Reset = 6
+what_number what.ResetAll = 7
 
 -- A refusal tells nothing.
 abbrev pub what_of : Told → ℕ
@@ -43,6 +54,3 @@ count_of told.ResetAll = 0
 
 abbrev pub numbers_of : Told → StepAnswer
 numbers_of what = record { answer = answer_of what; what = what_of what; slot = slot_of what; count = count_of what }
-
-abbrev pub stepped_of : Stepped → StepOutcome
-stepped_of stepped = record { answer = numbers_of stepped.told; driver = stepped.driver }

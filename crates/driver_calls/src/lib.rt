@@ -2,20 +2,23 @@
 #![tactic(auto)]
 
 ghost use Rattle.std.specs.Prelude.{◌≡◌};
+ghost use Rattle.answers.specs.Refusal.{answer_of};
+ghost use Rattle.assembly.specs.Told.{told_of};
 ghost use Rattle.assembly.specs.Transition.{fresh_driver};
 ghost use Rattle.driver.specs.Step.{step_of};
 ghost use Rattle.copy_out.specs.CopyOut.{copy_of};
 ghost use Rattle.revision1_reader.specs.Step.{take_of};
 ghost use Rattle.driver_calls.specs.Entry.{entry_copy_answer, copied_entry};
-ghost use Rattle.driver_calls.specs.Told.{numbers_of, stepped_of};
+ghost use Rattle.driver_calls.specs.Told.{what_number, numbers_of};
 
-use answers::{DONE, INVALID};
+use answers::{DONE, Refusal, answer_of};
 use assembly::{Driver, Told};
 use copy_out::Copied;
+use entries::KNOWN_LENGTH;
 use geometry::Geometry;
 use revision1_reader::Taken;
 
-// What a step tells, as numbers.
+// What a step tells, as numbers. Kept beside the Result: `thayarqo_step` answers this struct.
 #[repr(C)]
 #[derive(Clone, Copy)]
 pub struct StepAnswer {
@@ -25,68 +28,52 @@ pub struct StepAnswer {
     pub count: u32,
 }
 
-// With the driver's state after it.
-#[repr(C)]
+// What a step tells, without its numbers. As a number it is the one that C gets.
 #[derive(Clone, Copy)]
-pub struct StepOutcome {
-    pub answer: StepAnswer,
-    pub driver: Driver,
+enum What {
+    Nothing = 0,
+    Gap = 1,
+    EmptyReport = 2,
+    Packet = 3,
+    Set = 4,
+    Conf = 5,
+    Reset = 6,
+    ResetAll = 7,
 }
 
-// What a step tells.
-const NOTHING: u8 = 0;
-
-const GAP: u8 = 1;
-
-const EMPTY_REPORT: u8 = 2;
-
-const PACKET: u8 = 3;
-
-const SET: u8 = 4;
-
-const CONF: u8 = 5;
-
-const RESET: u8 = 6;
-
-const RESET_ALL: u8 = 7;
-
-fn tell(answer: u8, what: u8, slot: u32, count: u32) -> StepAnswer
-    ensures { result ≡ record { answer = answer; what = what; slot = slot; count = count } }
-{
-    StepAnswer {
-        answer: answer,
-        what: what,
-        slot: slot,
-        count: count,
+impl What {
+    // As an answer that has a slot and a count of events.
+    fn with(self, slot: u32, count: u32) -> StepAnswer
+        ensures { result ≡ record { answer = 0; what = what_number self; slot = slot; count = count } }
+    {
+        StepAnswer {
+            answer: DONE,
+            what: self as u8,
+            slot,
+            count,
+        }
     }
 }
 
-fn numbers(told: Told) -> StepAnswer
-    ensures { result ≡ numbers_of told }
-{
-    match told {
-        Told::Refused(number) => tell(number, NOTHING, 0, 0),
-        Told::Nothing => tell(DONE, NOTHING, 0, 0),
-        Told::Gap => tell(DONE, GAP, 0, 0),
-        Told::EmptyReport => tell(DONE, EMPTY_REPORT, 0, 0),
-        Told::Packet { slot, count } => tell(DONE, PACKET, slot, count),
-        Told::Set(slot) => tell(DONE, SET, slot, 0),
-        Told::Conf(slot) => tell(DONE, CONF, slot, 0),
-        Told::Reset(slot) => tell(DONE, RESET, slot, 0),
-        Told::ResetAll => tell(DONE, RESET_ALL, 0, 0),
-    }
-}
+// Kept apart from the other structs of C: one conversion for all would need a trait that sets the fields of each.
+impl From<Result<Told, Refusal>> for StepAnswer {
+    ghost from_gives = { λ outcome answer. answer ≡ numbers_of (told_of outcome) };
 
-fn step_rule(driver: Driver, geometry: Geometry, area: &mut [u8], packet: &mut [u8]) -> StepOutcome
-    ensures { let step = step_of geometry driver area.old packet.old in
-        (result ≡ stepped_of step.stepped) × ((area.new ≡ step.area) × (packet.new ≡ step.packet)) }
-{
-    let result = driver::step(geometry, driver, area, packet);
-    let told = result.told;
-    let after = result.driver;
-    StepOutcome {
-        answer: numbers(told),
-        driver: after,
+    fn from(outcome: Result<Told, Refusal>) -> StepAnswer {
+        match outcome {
+            Ok(Told::Nothing) => What::Nothing.with(0, 0),
+            Ok(Told::Gap) => What::Gap.with(0, 0),
+            Ok(Told::EmptyReport) => What::EmptyReport.with(0, 0),
+            Ok(Told::Packet { slot, count }) => What::Packet.with(slot, count),
+            Ok(Told::Set(slot)) => What::Set.with(slot, 0),
+            Ok(Told::Conf(slot)) => What::Conf.with(slot, 0),
+            Ok(Told::Reset(slot)) => What::Reset.with(slot, 0),
+            Ok(Told::ResetAll) => What::ResetAll.with(0, 0),
+            Err(refusal) => StepAnswer {
+                answer: refusal.number(),
+                ..What::Nothing.with(0, 0)
+            },
+        }
     }
 }
 
@@ -94,7 +81,7 @@ fn step_rule(driver: Driver, geometry: Geometry, area: &mut [u8], packet: &mut [
 pub extern "C" fn thayarqo_fresh_driver() -> Driver
     ensures { result ≡ fresh_driver }
 {
-    assembly::fresh()
+    Driver::fresh()
 }
 
 #[unsafe(no_mangle)]
@@ -108,9 +95,7 @@ pub extern "C" fn thayarqo_step(
         (result ≡ numbers_of step.stepped.told) × (driver.new ≡ step.stepped.driver)
         × (area.new ≡ step.area) × (packet.new ≡ step.packet) }
 {
-    let out = step_rule(*driver, geometry, area, packet);
-    *driver = out.driver;
-    out.answer
+    driver::step(geometry, driver, area, packet).into()
 }
 
 #[unsafe(no_mangle)]
@@ -118,7 +103,7 @@ pub extern "C" fn thayarqo_revision1_step(geometry: Geometry, area: &mut [u8]) -
     ensures { let take = take_of geometry area.old in
         (result ≡ take.taken) × (area.new ≡ take.area) }
 {
-    revision1_reader::step(geometry, area)
+    revision1_reader::step(geometry, area).into()
 }
 
 #[unsafe(no_mangle)]
@@ -131,7 +116,19 @@ pub extern "C" fn thayarqo_copy_out(
     ensures { let copy = copy_of geometry area.old limit out.old in
         (result ≡ copy.copied) × (area.new ≡ copy.area) × (out.new ≡ copy.out) }
 {
-    copy_out::copy_out(geometry, area, limit, out)
+    copy_out::copy_out(geometry, area, limit, out).into()
+}
+
+fn lookup(geometry: Geometry, page: &[u8], slot: u32, out: &mut [u8]) -> Result<(), Refusal>
+    ensures { (answer_of result ≡ entry_copy_answer geometry page.now slot out.old)
+        × (out.new ≡ copied_entry geometry page.now slot out.old) }
+{
+    let Some(out) = out.as_mut_array::<KNOWN_LENGTH>() else {
+        return Err(Refusal::Invalid);
+    };
+    let entry = entries::lookup(geometry, page, slot)?;
+    *out = *entry;
+    Ok(())
 }
 
 #[unsafe(no_mangle)]
@@ -139,11 +136,5 @@ pub extern "C" fn thayarqo_lookup(geometry: Geometry, page: &[u8], slot: u32, ou
     ensures { (result ≡ entry_copy_answer geometry page.now slot out.old)
         × (out.new ≡ copied_entry geometry page.now slot out.old) }
 {
-    if out.len() != entries::KNOWN_LENGTH {
-        return INVALID;
-    }
-    let mut answer: u8 = DONE;
-    let entry = entries::lookup(geometry, page, slot, &mut answer);
-    copying::copy(out, 0, entry);
-    answer
+    answer_of(lookup(geometry, page, slot, out))
 }

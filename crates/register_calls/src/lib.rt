@@ -6,6 +6,7 @@ ghost use Rattle.std.specs.Prelude.{◌≡◌, length};
 ghost use Rattle.registers.specs.Read.{read_of};
 ghost use Rattle.registers.specs.Write.{write_of};
 
+use answers::answer_of;
 use device::Device;
 use geometry::Geometry;
 use registers::Value;
@@ -21,7 +22,7 @@ pub extern "C" fn thayarqo_read(
 ) -> Value
     ensures { result ≡ read_of geometry device.now area.now page.now offset width }
 {
-    registers::read_rule(*device, geometry, area, page, offset, width)
+    registers::read_rule(device, geometry, area, page, offset, width).into()
 }
 
 #[unsafe(no_mangle)]
@@ -39,5 +40,5 @@ pub extern "C" fn thayarqo_write(
 {
     let out = registers::write_rule(*device, geometry, area, page, offset, width, value);
     *device = out.device;
-    out.answer
+    answer_of(out.answer)
 }

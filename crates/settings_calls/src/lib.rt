@@ -13,7 +13,7 @@ use nodes::Settings;
 pub extern "C" fn thayarqo_fresh_settings() -> Settings
     ensures { result ≡ fresh_settings }
 {
-    nodes::fresh()
+    Settings::fresh()
 }
 
 #[unsafe(no_mangle)]
@@ -21,9 +21,7 @@ pub extern "C" fn thayarqo_node(settings: &mut Settings, name: &[u8], value: &[u
     ensures { let read = read_node settings.old name.now value.now in
         (result ≡ read.answer) × (settings.new ≡ read.settings) }
 {
-    let out = nodes::read_node(*settings, name, value);
-    *settings = out.settings;
-    out.answer
+    answers::answer_of(settings.read_node(name, value))
 }
 
 #[unsafe(no_mangle)]
