@@ -4,8 +4,8 @@ use Rattle.std.specs.Prelude.{ℕ, cond, List, [], ◌∷◌, ◌++◌, map, eqb
 use Rattle.answers.specs.Answers.{done}
 use Rattle.records.specs.declared.Event.{Event}
 use Rattle.records.specs.Event.{events_from}
-use Rattle.assembly.specs.declared.Told.{Told}
-use Rattle.assembly.specs.declared.Told.TheVariants as told
+use Rattle.assembly.specs.Told.{Told}
+use Rattle.assembly.specs.Told as told
 use Rattle.revision1_reader.specs.Groups.{record_in, groups_ended, begun_after}
 use Rattle.delivery.specs.World.{Answer, numbered, valued, stepped, handed}
 use Rattle.delivery.specs.Log.{Entry, Item, gap, whole, group}

@@ -13,11 +13,11 @@ use Rattle.geometry.specs.Geometry.{ring_of}
 use Rattle.records.specs.declared.Event.{Event}
 use Rattle.records.specs.Ring.{read_pointer, write_pointer, next_index}
 use Rattle.records.proofs.Laws.Put.{moved_length}
-use Rattle.assembly.specs.declared.Stepped.{Stepped}
-use Rattle.assembly.specs.declared.Told.TheVariants as told
+use Rattle.assembly.specs.Told.{Stepped}
+use Rattle.assembly.specs.Told as told
 use Rattle.assembly.specs.Transition.{answer_of, tells, receive}
 use Rattle.assembly.specs.Collect.{collect}
-use Rattle.reading.specs.declared.Oldest.TheVariants as variants
+use Rattle.reading.specs.Oldest as variants
 use Rattle.reading.specs.Reading.{is_valid_area}
 use Rattle.reading.specs.Oldest.{oldest_of}
 use Rattle.reading.proofs.Laws.Oldest.{oldest_none, oldest_some}
