@@ -1,11 +1,12 @@
 -- The listing of a captured event page (01, "The listing"), as the bytes of its text.
-use Rattle.std.specs.Prelude.{ℕ, Bool, not, cond, List, [], ◌∷◌, ◌++◌, leb, eqb, length}
+use Rattle.std.specs.Prelude.{ℕ, Bool, not, cond, List, [], ◌∷◌, ◌++◌, leb, eqb, length, ◌≡◌, ◌<◌}
 use Rattle.answers.specs.Answers.{done, invalid, bad_index}
 use Rattle.answers.specs.Refusals.{first_refusal}
 use Rattle.geometry.specs.declared.Geometry.{Geometry}
 use Rattle.geometry.specs.Geometry.{area_length, ring_length, ring_of}
 use Rattle.records.specs.declared.Event.{Event}
-use Rattle.records.specs.Ring.{read_pointer, write_pointer}
+use Rattle.records.specs.Ring.{read_pointer, write_pointer, unread_count}
+use Rattle.records.specs.declared.index.RingIndex.{RingIndex}
 use Rattle.records.specs.Unread.{unread}
 use Rattle.text.specs.Ascii.{ascii}
 use Rattle.text.specs.Text.{decimal}
@@ -34,6 +35,13 @@ refusals input_length area =
     ∷ (leb (ring_length one_page) (read_pointer area), bad_index)
     ∷ (leb (ring_length one_page) (write_pointer area), bad_index)
     ∷ []
+
+-- So many records are unread from this index on, of at most 510.
+pub record IsUnread (first : RingIndex) (count : ℕ) (area : List ℕ) : Type 0 where
+  pub ring : first.ring ≡ ring_of one_page
+  pub oldest : first.index ≡ read_pointer area
+  pub counted : count ≡ unread_count (ring_of one_page) (read_pointer area) (write_pointer area)
+  pub few : count < 511
 
 -- The unread records, the oldest first.
 abbrev pub listed : List ℕ → List Event

@@ -2,126 +2,72 @@
 // line closes the settings and begins new ones. A line with no equals sign is read as a number.
 #![tactic(auto)]
 
-ghost use Rattle.std.specs.Prelude.{◌≤◌, length, IfOk};
-
-use decimals::Number;
 use nodes::Settings;
 use std::io::{self, Read};
 
-fn print(rt: &impl Print, text: &[u8]) -> io::Result<()> {
-    rt.write_all(text)
-}
+// Of a longer table the beginning is read.
+const TABLE_LENGTH: u64 = 4096;
 
-fn print_number(rt: &impl Print, label: &[u8], value: u32) -> io::Result<()> {
-    print(rt, label)?;
-    print!(rt; "{value}")
-}
-
-fn print_flag(rt: &impl Print, label: &[u8], value: bool) -> io::Result<()> {
-    print(rt, label)?;
-    if value {
-        return print(rt, b"1");
-    }
-    print(rt, b"0")
-}
-
+// Bytes are printed as they came, since they may be no text.
 fn print_node(
     rt: &impl Print,
-    settings: Settings,
+    settings: &mut Settings,
     name: &[u8],
     value: &[u8],
-) -> io::Result<Settings> {
-    let read = nodes::read_node(settings, name, value);
-    print(rt, name)?;
-    print(rt, b"=")?;
-    print(rt, value)?;
-    print_number(rt, b": ", read.answer as u32)?;
-    print(rt, b"\n")?;
-    Ok(read.settings)
+) -> io::Result<()> {
+    let answer = answers::answer_of(settings.read_node(name, value));
+    rt.write_all(name)?;
+    rt.write_all(b"=")?;
+    rt.write_all(value)?;
+    println!(rt; ": {answer}")
 }
 
 fn print_closed(rt: &impl Print, settings: Settings) -> io::Result<()> {
     let closed = closing::close(settings);
-    print_number(rt, b"closed: ", closed.answer as u32)?;
-    print_flag(rt, b", absolute ", closed.absolute)?;
-    print_flag(rt, b", multi-touch ", closed.multi_touch)?;
-    print_flag(rt, b", raw ", closed.raw)?;
-    print_flag(rt, b", disable keyboard ", closed.disable_keyboard)?;
-    print_flag(rt, b", disable pointer ", closed.disable_pointer)?;
-    print_number(rt, b", area ", closed.width)?;
-    print_number(rt, b" x ", closed.height)?;
-    print_number(rt, b", contacts ", closed.contacts)?;
-    print_number(rt, b", touch area ", closed.touch_width)?;
-    print_number(rt, b" x ", closed.touch_height)?;
-    print(rt, b"\n\n")
+    print!(rt;
+        "closed: {}, absolute {}, multi-touch {}",
+        closed.answer, closed.absolute as u8, closed.multi_touch as u8
+    )?;
+    print!(rt;
+        ", raw {}, disable keyboard {}",
+        closed.raw as u8, closed.disable_keyboard as u8
+    )?;
+    print!(rt;
+        ", disable pointer {}, area {} x {}",
+        closed.disable_pointer as u8, closed.width, closed.height
+    )?;
+    println!(rt;
+        ", contacts {}, touch area {} x {}\n",
+        closed.contacts, closed.touch_width, closed.touch_height
+    )
 }
 
-fn print_read(rt: &impl Print, text: &[u8]) -> io::Result<()> {
-    print(rt, text)?;
+fn print_number(rt: &impl Print, text: &[u8]) -> io::Result<()> {
+    rt.write_all(text)?;
     match decimals::read_number(text) {
-        Number::Value(value) => print_number(rt, b" says ", value)?,
-        Number::Bad(place) => print!(rt; " is spoiled at {place}")?,
+        Ok(value) => println!(rt; " says {value}"),
+        Err(bad) => println!(rt; " is spoiled at {}", bad.place),
     }
-    print(rt, b"\n")
 }
 
-// Where the byte first stands from a place on, or the text's end.
-fn find(text: &[u8], from: usize, byte: u8) -> usize
-    requires { from ≤ length text.now }
-    ensures { (from ≤ result) × (result ≤ length text.now) }
-{
-    let mut at = from;
-    while at < text.len() {
-        if text[at] == byte {
-            return at;
-        }
-        at += 1;
+fn take_line(rt: &impl Print, settings: &mut Settings, text: &[u8]) -> io::Result<()> {
+    if text.is_empty() {
+        print_closed(rt, *settings)?;
+        *settings = Settings::fresh();
+        return Ok(());
     }
-    at
+    match text.iter().position(|&byte| byte == b'=') {
+        Some(equals) => print_node(rt, settings, &text[..equals], &text[equals + 1..]),
+        None => print_number(rt, text),
+    }
 }
 
-fn line(rt: &impl Print, settings: Settings, text: &[u8]) -> io::Result<Settings> {
-    if text.len() == 0 {
-        print_closed(rt, settings)?;
-        return Ok(nodes::fresh());
-    }
-    let equals = find(text, 0, b'=');
-    if equals == text.len() {
-        print_read(rt, text)?;
-        return Ok(settings);
-    }
-    print_node(rt, settings, &text[0..equals], &text[equals + 1..])
-}
-
-fn lines(rt: &impl Print, table: &[u8]) -> io::Result<()> {
-    let mut settings = nodes::fresh();
-    let mut at: usize = 0;
-    while at < table.len() {
-        let end = find(table, at, b'\n');
-        settings = line(rt, settings, &table[at..end])?;
-        at = end + 1;
+fn main(rt: HostRuntime) -> io::Result<()> {
+    let mut table = Vec::new(rt.alloc());
+    rt.stdin().take(TABLE_LENGTH).read_to_end(&mut table)?;
+    let mut settings = Settings::fresh();
+    for line in table.split_inclusive(|&byte| byte == b'\n') {
+        take_line(&rt, &mut settings, line.strip_suffix(b"\n").unwrap_or(line))?;
     }
     Ok(())
-}
-
-// Reads until the lent bytes are full or the input ends, and answers how many were read.
-fn read_full<R: Read>(input: &mut R, bytes: &mut [u8]) -> io::Result<usize>
-    ensures { IfOk result (λ count. count ≤ length bytes.new) }
-{
-    let mut done: usize = 0;
-    while done < bytes.len() {
-        let count = input.read(&mut bytes[done..])?;
-        if count == 0 {
-            break;
-        }
-        done += count;
-    }
-    Ok(done)
-}
-
-// Of a table longer than the buffer the beginning is read.
-fn main(rt: HostRuntime) -> io::Result<()> {
-    let mut buffer = [0; 4096];
-    let count = read_full(&mut rt.stdin(), &mut buffer)?;
-    lines(&rt, &buffer[..count])
 }

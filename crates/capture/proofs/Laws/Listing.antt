@@ -1,23 +1,23 @@
 -- The two ways a listing ends: a refusal, or the records and their count.
-use Prim.Native.Nat.{ℕ, ◌+◌, ◌*◌, ◌≤◌, ◌<◌}
-use mathlib.Core.Path.{◌≡◌, sym, ◌∙◌}
+use Prim.Native.Nat.{ℕ, ◌+◌, ◌*◌, ◌≤◌}
+use mathlib.Core.Path.{◌≡◌}
 use mathlib.Core.List.{List, ◌++◌}
 use native.Mathlib.Omega.{arith}
 use lib.ListN.{length, length-append}
-use borrow.Author.Tests.{leb-false, ne_eqb}
+use borrow.Author.Tests.{ne_eqb}
+use Rattle.answers.specs.Answers.{done}
+use Rattle.answers.specs.declared.Refusal.{Refusal}
+use Rattle.answers.specs.Refusal.{number_of}
 use Rattle.answers.specs.Refusals.{first_refusal}
-use Rattle.answers.proofs.Laws.{none_holds}
-use Rattle.geometry.specs.Geometry.{ring_of}
 use Rattle.records.specs.declared.Event.{Event}
-use Rattle.records.specs.Ring.{Holds, read_pointer, write_pointer, unread_count}
+use Rattle.records.specs.declared.index.RingIndex.{RingIndex}
 use Rattle.records.specs.Unread.{records_from}
-use Rattle.records.proofs.Laws.Index.{unread_below}
 use Rattle.records.proofs.Laws.Unread.{records_length}
 use Rattle.text.specs.Ascii.{ascii}
 use Rattle.text.specs.Text.{decimal, Written}
 use Rattle.text.proofs.Laws.Digits.{decimal-length}
 use Rattle.text.proofs.Laws.Written.{written-length, written_next}
-use Rattle.capture.specs.Listing.{one_page, record_lines, number_line, refusals, listing}
+use Rattle.capture.specs.Listing.{record_lines, number_line, refusals, IsUnread, listing}
 use Rattle.capture.proofs.Laws.Lines.{lines_length}
 
 -- a line of a word and a number takes at most eleven bytes after the word
@@ -33,56 +33,51 @@ line_end word number wrote =
       decimal-length number,
     )
 
--- the page holds the ring
-pub page-holds : Holds 4096 (ring_of one_page)
-page-holds = record { wide = omega arith; inside = omega arith; small = omega arith }
+-- no refusal has the number of what isn't refused
+numbered : (refusal : Refusal) → number_of refusal ≡ 0 → ⊥
+numbered Refusal.Invalid h = omega arith
+numbered Refusal.BadAccess h = omega arith
+numbered Refusal.ReadOnly h = omega arith
+numbered Refusal.NoRegister h = omega arith
+numbered Refusal.DeviceOff h = omega arith
+numbered Refusal.BadSlot h = omega arith
+numbered Refusal.NoRoom h = omega arith
+numbered Refusal.NotOffered h = omega arith
+numbered Refusal.Malformed h = omega arith
+numbered Refusal.BadIndex h = omega arith
+numbered Refusal.NothingToRead h = omega arith
+numbered Refusal.BadSetting h = omega arith
 
-module _ (input_length : ℕ) (area : List ℕ) {answer : ℕ} (judged : answer ≡ first_refusal (refusals input_length area)) where
-  pub possible_pointers : answer ≡ 0 → (read_pointer area < 511) × (write_pointer area < 511)
-  possible_pointers h =
-      let a = none_holds _ _ _ (omega arith) (sym judged ∙ h) in
-      let b = none_holds _ _ _ (omega arith) a.1 in
-      let c = none_holds _ _ _ (omega arith) b.1 in
-      (leb-false 511 (read_pointer area) b.0, leb-false 511 (write_pointer area) c.0)
+-- a page that is not refused has at most 510 unread records
+module _ {first : RingIndex} {count : ℕ} {area : List ℕ} (found : IsUnread first count area) where
+  pub records_end : {before after : List ℕ} {at end : ℕ}
+      → Written before at (record_lines (records_from first.ring area first.index count)) after end → end ≤ at + 510 * 33
+  records_end wrote =
+      let lines : List Event = records_from first.ring area first.index count in
+      omega (arith, found.few, wrote.ends, lines_length lines, records_length first.ring area first.index count)
 
-  -- a page that is not refused has at most 510 unread records
-  module _ (none : answer ≡ 0) {read write count : ℕ} (r : read ≡ read_pointer area) (w : write ≡ write_pointer area)
-      (counted : count ≡ unread_count (ring_of one_page) read write) where
-    pub few_records : count < 511
-    few_records =
-        let p = possible_pointers none in
-        omega (arith, unread_below (ring_of one_page) read write (omega arith) (omega arith))
+module _ (input_length : ℕ) (area : List ℕ) {before titled : List ℕ} {at : ℕ} (size : length before ≡ 20480)
+    (title : Written before 0 (ascii "type code value\n") titled at) where
+  pub refused_listing : (refusal : Refusal) {after : List ℕ} {end : ℕ} → number_of refusal ≡ first_refusal (refusals input_length area)
+      → Written titled at (number_line (ascii "refused ") (number_of refusal)) after end
+      → Written before 0 (listing input_length area) after end × (end ≤ length after)
+  refused_listing refusal judged line =
+      let whole = written_next title (omega arith) line in
+      let short = line_end (ascii "refused ") (number_of refusal) line in (
+        rw (← judged, ne_eqb (number_of refusal) 0 (numbered refusal)) whole,
+        omega (arith, whole.ends, title.ends, written-length whole (omega (arith, whole.ends, title.ends))),
+      )
 
-    pub records_end : {before after : List ℕ} {at end : ℕ}
-        → Written before at (record_lines (records_from (ring_of one_page) area read count)) after end → end ≤ at + 510 * 33
-    records_end wrote =
-        let lines : List Event = records_from (ring_of one_page) area read count in
-        omega (arith, few_records, wrote.ends, lines_length lines, records_length (ring_of one_page) area read count)
-
-  module _ {before titled : List ℕ} {at : ℕ} (size : length before ≡ 20480)
-      (title : Written before 0 (ascii "type code value\n") titled at) where
-    pub refused_listing : {after : List ℕ} {end : ℕ} → (answer ≡ 0 → ⊥)
-        → Written titled at (number_line (ascii "refused ") answer) after end
-        → Written before 0 (listing input_length area) after end × (end ≤ length after)
-    refused_listing n line =
-        let whole = written_next title (omega arith) line in
-        let short = line_end (ascii "refused ") answer line in (
-          rw (← judged, ne_eqb answer 0 n) whole,
-          omega
-              (arith, whole.ends, title.ends, written-length whole (omega (arith, whole.ends, title.ends))),
-        )
-
-    pub whole_listing : {read write count : ℕ} {lines after : List ℕ} {line_at end : ℕ} → answer ≡ 0
-        → read ≡ read_pointer area → write ≡ write_pointer area → count ≡ unread_count (ring_of one_page) read write
-        → Written titled at (record_lines (records_from (ring_of one_page) area read count)) lines line_at
-        → Written lines line_at (number_line (ascii "end ") count) after end
-        → Written before 0 (listing input_length area) after end × (end ≤ length after)
-    whole_listing {read} {write} {count} none r w counted records last =
-        let body = written_next records
-        (omega (arith, written-length title (omega arith), title.ends, records.ends, records_end none r w counted records)) last in
-        let whole = written_next title (omega arith) body in
-        let many = records_end none r w counted records in
-        let short = line_end (ascii "end ") count last in (
-          rw (← judged, none, records_length, ← r, ← w, ← counted) whole,
-          omega (arith, whole.ends, title.ends, written-length whole (omega (arith, whole.ends, title.ends))),
-        )
+  pub whole_listing : {first : RingIndex} {count : ℕ} {lines after : List ℕ} {line_at end : ℕ}
+      → done ≡ first_refusal (refusals input_length area) → IsUnread first count area
+      → Written titled at (record_lines (records_from first.ring area first.index count)) lines line_at
+      → Written lines line_at (number_line (ascii "end ") count) after end
+      → Written before 0 (listing input_length area) after end × (end ≤ length after)
+  whole_listing {first} {count} none found records last =
+      let many = records_end found records in
+      let body = written_next records (omega (arith, written-length title (omega arith), title.ends, records.ends, many)) last in
+      let whole = written_next title (omega arith) body in
+      let short = line_end (ascii "end ") count last in (
+        rw (← none, records_length, ← found.counted, ← found.oldest, ← found.ring) whole,
+        omega (arith, whole.ends, title.ends, written-length whole (omega (arith, whole.ends, title.ends))),
+      )

@@ -1,15 +1,14 @@
--- Laws of numbers in decimal: how long their text is, and how a loop stores it, from the last digit on.
-use Prim.Native.Nat.{ℕ, zero, suc, ◌+◌, ◌-◌, ◌/◌, ◌%◌, ◌≤◌, ◌<◌}
+-- Laws of numbers in decimal: how long their text is, and that as many digits as it takes are the number.
+use Prim.Native.Nat.{ℕ, zero, suc, ◌+◌, ◌/◌, ◌%◌, ◌≤◌}
 use mathlib.Core.Path.{◌≡◌, refl, ap, ◌∙◌}
 use mathlib.Core.Bool.{Bool, true, false, cond}
 use mathlib.Core.List.{List, [], ◌∷◌}
 use native.Mathlib.Omega.{arith}
 use native.Mathlib.Numerals.{add-one}
 use lib.Dec.{ltb}
-use lib.ListN.{length, set, length-append}
+use lib.ListN.{length, length-append}
 use Rattle.copying.specs.Copying.{overwrite}
 use Rattle.text.specs.Text.{digits, digit_count, decimal}
-use Rattle.copying.proofs.Laws.Remains.{Remains, done, last_stored}
 
 pub digits-length : (count value : ℕ) → length (digits count value) ≡ count
 unfolding digits
@@ -43,20 +42,3 @@ decimal-length value = rw (digits-length (digit_count value) value) (digit_count
 pub decimal-written : (start : List ℕ) (at : ℕ) (bytes : List ℕ) (count value : ℕ)
     → count ≡ digit_count value → bytes ≡ overwrite start at (digits count value) → bytes ≡ overwrite start at (decimal value)
 decimal-written start at bytes count value counted written = rw counted at written
-
--- ---- the loop that stores digits: what remains is the first `left` digits
-
-module _ (start : List ℕ) (at : ℕ) (whole bytes : List ℕ) (left value : ℕ)
-    (remains : Remains start at whole bytes at (digits left value)) where
-  pub digits_go_on : 0 < left → at + left ≤ length bytes
-      → Remains start at whole (set bytes (at + (left - 1)) (48 + value % 10)) at (digits (left - 1) (value / 10))
-  unfolding digits
-  digits_go_on h k =
-      let one_more : left ≡ suc (left - 1) = omega arith in
-      let n : length (digits (left - 1) (value / 10)) ≡ left - 1 = digits-length (left - 1) (value / 10) in
-      rw n at (last_stored start at whole bytes at (48 + value % 10) (digits (left - 1) (value / 10)) (omega arith)
-      (rw one_more at remains))
-
-  pub digits_end : left ≡ 0 → bytes ≡ overwrite start at whole
-  unfolding digits
-  digits_end none = done start at whole bytes at (rw none at remains)
