@@ -5,7 +5,8 @@
 # usage: awk -v edit=CRATE/LABEL.edit -f refusal.awk WHAT-RT-WROTE
 #
 # rt writes the first error that is of more than a name which a proof file has and the edited code has not. It decides, since others may
-# rest on it. A function's goal that has no answer, or one under another name, has no error but a note.
+# rest on it. A function's goal that has no answer, or one under another name, has no error but a note, and so has the fact that a type's
+# ghost field wants of its fields.
 
 # The name of what is checked stands before the message of an error, but not where a text can't be read.
 function why_of_error(line,    place, message) {
@@ -29,6 +30,7 @@ function why(said) {
     if (said ~ /^refused, as it must be \(only by a limit/) return "only a limit of the prover refuses it"
     if (!sub(/^refused, as it must be: /, "", said)) return "rt gives no reason"
     if (said ~ /^note: .*: it is not proved that /) return ""
+    if (said ~ /^note: [^ ]*: `search` found no proof \(`invariant_of-[^`]*`\)/) return ""
     if (said ~ /^[^ ]*:[0-9]+:[0-9]+: error/) return why_of_error(said)
     return "rt gives no error"
 }
