@@ -2,11 +2,12 @@
 // line closes the settings and begins new ones. A line with no equals sign is read as a number.
 #![tactic(auto)]
 
+use arrayvec::ArrayVec;
 use nodes::Settings;
 use std::io::{self, Read};
 
 // Of a longer table the beginning is read.
-const TABLE_LENGTH: u64 = 4096;
+const TABLE_LENGTH: usize = 4096;
 
 // Bytes are printed as they came, since they may be no text.
 fn print_node(
@@ -63,10 +64,10 @@ fn take_line(rt: &impl Print, settings: &mut Settings, text: &[u8]) -> io::Resul
 }
 
 fn main(rt: HostRuntime) -> io::Result<()> {
-    let mut table = Vec::new(rt.alloc());
-    rt.stdin().take(TABLE_LENGTH).read_to_end(&mut table)?;
+    let mut table = ArrayVec::<u8, TABLE_LENGTH>::new();
+    io::copy(&mut rt.stdin().take(TABLE_LENGTH as u64), &mut table)?;
     let mut settings = Settings::fresh();
-    for line in table.split_inclusive(|&byte| byte == b'\n') {
+    for line in table.as_slice().split_inclusive(|&byte| byte == b'\n') {
         take_line(&rt, &mut settings, line.strip_suffix(b"\n").unwrap_or(line))?;
     }
     Ok(())

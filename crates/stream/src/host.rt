@@ -1,6 +1,8 @@
 // The host of the example: a device with its event area and its entry page.
 use crate::events::EXAMPLE;
 use crate::{GEOMETRY, expect_done};
+use arrayvec::ArrayVec;
+use assembly::PACKET_LENGTH;
 use device::Device;
 use geometry::PAGE_LENGTH;
 use records::Event;
@@ -70,16 +72,17 @@ impl Host {
         expect_done(rt, "packet", sent.answer)
     }
 
-    pub(crate) fn send_all(&mut self, rt: &(impl Print + AllocGlobal)) -> io::Result<()> {
-        let mut packet = Vec::new(rt.alloc());
+    // Events past the most that a packet may have are left out.
+    pub(crate) fn send_all(&mut self, rt: &impl Print) -> io::Result<()> {
+        let mut packet = ArrayVec::<u8, PACKET_LENGTH>::new();
         for &(kind, code, value) in &EXAMPLE {
             if kind == EV_SYN {
-                self.send(rt, value, &packet)?;
+                self.send(rt, value, packet.as_slice())?;
                 packet.clear();
             } else {
                 let mut event = [0; 8];
                 records::encode(&mut event, Event { kind, code, value });
-                packet.extend_from_slice(&event)?;
+                let _held = packet.try_extend_from_slice(&event);
             }
         }
         Ok(())
