@@ -4,12 +4,15 @@
 ghost use Rattle.std.specs.Prelude.{◌≡◌, ◌+◌, ◌≤◌, length, replicate};
 ghost use Rattle.copying.specs.Copying.{overwrite};
 
-// Copies the source into the buffer from `at` on.
+// Copies the source into the buffer from `at` on. Kept byte by byte: the library's `copy_from_slice` calls memmove, which a host without a
+// C library would have to bring.
 pub fn copy(bytes: &mut [u8], at: usize, source: &[u8])
     requires { at + length source.now ≤ length bytes.old }
     ensures { bytes.new ≡ overwrite bytes.old at source.now }
 {
-    bytes[at..at + source.len()].copy_from_slice(source);
+    for i in 0..source.len() {
+        bytes[at + i] = source[i];
+    }
 }
 
 // Fills a stretch of eight bytes. An array moves as one word, as a slice of this length wouldn't.

@@ -1,9 +1,12 @@
 -- What remains to be written of a stretch while a loop stores it byte by byte, from either end.
-use Prim.Native.Nat.{ℕ, ◌+◌, ◌≤◌, ◌<◌}
+use Prim.Native.Nat.{ℕ, suc, ◌+◌, ◌≤◌, ◌<◌}
 use mathlib.Core.Path.{◌≡◌, refl, sym, ◌∙◌}
 use mathlib.Core.List.{List, [], ◌∷◌, ◌++◌}
 use native.Mathlib.Omega.{arith}
-use lib.ListN.{length, set, length-set}
+use native.Mathlib.Nat.{add_assoc, add-zero}
+use native.Mathlib.Numerals.{add-one}
+use lib.ListN.{length, get_or, drop, set, length-set, drop_of_length-le}
+use lib.Seq.{drop-cons}
 use Rattle.copying.specs.Copying.{overwrite}
 use Rattle.copying.proofs.Laws.Overwrite.{overwrite-length, overwrite-nothing, overwrite_one, overwrite_next, overwrite_previous}
 
@@ -43,3 +46,20 @@ module _ (start : List ℕ) (at : ℕ) (whole : List ℕ) where
     size = overwrite-length bytes place first h ∙ remains.size;
     outcome = overwrite_next bytes place first rest h ∙ remains.outcome;
   }
+
+-- ---- a copy, from the first byte on: what remains is the text from `i` on
+
+module _ (start : List ℕ) (at : ℕ) (text : List ℕ) where
+  pub copy_begins : Remains start at text start (at + 0) text
+  copy_begins = rw add-zero (begin start at text)
+
+  module _ (bytes : List ℕ) (i : ℕ) (remains : Remains start at text bytes (at + i) (drop i text)) where
+    pub copy_goes_on : i < length text → at + i < length bytes
+        → Remains start at text (set bytes (at + i) (get_or text i 0)) (at + (i + 1)) (drop (i + 1) text)
+    copy_goes_on h k =
+        let next : at + (i + 1) ≡ at + i + 1 = sym (add_assoc at i 1) in
+        rw (next, add-one i) (first_stored start at text bytes (at + i) (get_or text i 0) (drop (suc i) text) k
+        (rw (drop-cons text i 0 h) at remains))
+
+    pub copy_ends : length text ≤ i → bytes ≡ overwrite start at text
+    copy_ends h = done start at text bytes (at + i) (rw (drop_of_length-le text {i = i} h) at remains)
