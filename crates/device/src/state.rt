@@ -10,7 +10,7 @@ use revision1_records::Position;
 pub fn is_acceleration(value: u32) -> bool
     ensures { result ≡ is_acceleration value }
 {
-    (1..=20).contains(&value)
+    1 <= value && value <= 20
 }
 
 impl Registers {
