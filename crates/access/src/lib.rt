@@ -88,16 +88,16 @@ impl Place {
     }
 }
 
-// The place that a read of a call that is right is granted.
+// The place that a read is granted where the call is right.
 #[tactic(auto, unfolding(answers::specs::Refusals::first_refusal))]
-pub fn place_read(layout: Layout, offset: u64, width: u32) -> Result<Place, Refusal>
-    ensures tested { answer_of result ≡ first_refusal (access_refusals true layout.geometry false offset width) }
-    ensures granted { IfOk result (λ place. place ≡ place_of layout.geometry offset) }
+fn register_place(geometry: Geometry, offset: u64, width: u32) -> Result<Place, Refusal>
+    ensures tested { answer_of result ≡ first_refusal (access_refusals true geometry false offset width) }
+    ensures granted { IfOk result (λ place. place ≡ place_of geometry offset) }
 {
-    if width != 4 || offset % 4 != 0 || offset >= layout.geometry.bar_length() {
+    if width != 4 || offset % 4 != 0 || offset >= geometry.bar_length() {
         return Err(Refusal::BadAccess);
     }
-    let place = Place::at(layout.geometry, offset);
+    let place = Place::at(geometry, offset);
     if place.is_nothing() {
         Err(Refusal::NoRegister)
     } else {
@@ -105,15 +105,40 @@ pub fn place_read(layout: Layout, offset: u64, width: u32) -> Result<Place, Refu
     }
 }
 
+// The place that an access is granted. `valid` says that the geometry, the lent lengths and the state are right.
+pub fn place_granted(
+    valid: bool,
+    geometry: Geometry,
+    writes: bool,
+    offset: u64,
+    width: u32,
+) -> Result<Place, Refusal>
+    ensures tested { answer_of result ≡ first_refusal (access_refusals valid geometry writes offset width) }
+    ensures granted { IfOk result (λ place. place ≡ place_of geometry offset) }
+{
+    if !valid {
+        return Err(Refusal::Invalid);
+    }
+    let place = register_place(geometry, offset, width)?;
+    if writes && place.is_read_only() {
+        Err(Refusal::ReadOnly)
+    } else {
+        Ok(place)
+    }
+}
+
+// The place that a read of a call that is right is granted.
+pub fn place_read(layout: Layout, offset: u64, width: u32) -> Result<Place, Refusal>
+    ensures tested { answer_of result ≡ first_refusal (access_refusals true layout.geometry false offset width) }
+    ensures granted { IfOk result (λ place. place ≡ place_of layout.geometry offset) }
+{
+    place_granted(true, layout.geometry, false, offset, width)
+}
+
 // The place that a write is granted.
 pub fn place_written(layout: Layout, offset: u64, width: u32) -> Result<Place, Refusal>
     ensures tested { answer_of result ≡ first_refusal (access_refusals true layout.geometry true offset width) }
     ensures granted { IfOk result (λ place. place ≡ place_of layout.geometry offset) }
 {
-    let place = place_read(layout, offset, width)?;
-    if place.is_read_only() {
-        Err(Refusal::ReadOnly)
-    } else {
-        Ok(place)
-    }
+    place_granted(true, layout.geometry, true, offset, width)
 }

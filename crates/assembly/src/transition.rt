@@ -81,9 +81,9 @@ impl Driver {
         event: Event,
         packet: &mut [u8; PACKET_LENGTH],
     ) -> Result<Told, Refusal>
-        ensures told { told_of result ≡ (receive_of layout.geometry event self.old).told }
-        ensures driver { self.new ≡ (receive_of layout.geometry event self.old).driver }
-        ensures packet { packet.new ≡ collected self.old (receive_of layout.geometry event self.old).driver event packet.old }
+        ensures { let received = receive_of layout.geometry event self.old in
+            (told_of result ≡ received.told) × (self.new ≡ received.driver)
+            × (packet.new ≡ collected self.old received.driver event packet.old) }
     {
         let slot = event.value;
         match Kind::of(layout, event) {

@@ -87,7 +87,7 @@ pub fn copy_out(
         (copied_of result ≡ copy.copied) × ((area.new ≡ copy.area) × ((out.new ≡ copy.out)
         × IfOk result (λ count. count ≡ unread_count (ring_of geometry) (read_pointer area.old) (read_pointer area.new)))) }
 {
-    let layout = area_layout(geometry, &area[..])?;
+    let layout = area_layout(geometry, area.len())?;
     let write = records::write_pointer(&area[..]);
     let read = oldest_index(layout.ring(), records::read_pointer(&area[..]), write)?;
     let unread = read.unread_count(write);

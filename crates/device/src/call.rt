@@ -1,9 +1,8 @@
 // What every call of the device is told and lent: the geometry, the state, the event area and the entry page.
-ghost use Rattle.std.specs.Prelude.{◌≡◌, ◌&&◌, ◌<◌, is_some, IfSome};
+ghost use Rattle.std.specs.Prelude.{◌≡◌, ◌<◌, is_some, IfSome};
 ghost use Rattle.geometry.specs.Geometry.{ring_length, ring_of};
 ghost use Rattle.records.specs.Ring.{Holds};
-ghost use Rattle.device.specs.State.{write_index_rule, taken_rule};
-ghost use Rattle.device.specs.Call.{is_valid_pages, is_valid_call};
+ghost use Rattle.device.specs.Call.{is_valid_pages, is_valid_bounds, is_valid_call};
 
 use crate::Device;
 use geometry::{Geometry, Layout, PAGE_LENGTH};
@@ -25,19 +24,30 @@ fn valid_pages(geometry: Geometry, area_size: usize, page_size: usize) -> Option
     }
 }
 
-impl Device {
-    // Whether the numbers of the state that the geometry bounds are within it.
-    #[tactic(auto, using(bits::proofs::Laws::length_limit))]
-    fn is_within(&self, layout: Layout) -> bool
-        ensures { result ≡ (write_index_rule layout.geometry self.now.producer.write_index
-            && taken_rule layout.geometry self.now.taken) }
-    {
-        self.producer.write_index < layout.ring().length
-            && layout.has_slots(bits::length(self.taken))
+// And the numbers of the state that the geometry bounds are within it. It takes these numbers alone, so that they can be asked about
+// without a state.
+#[tactic(auto, using(bits::proofs::Laws::length_limit), unfolding(crate::specs::Call::is_valid_bounds))]
+pub fn valid_bounds(
+    geometry: Geometry,
+    area_size: usize,
+    page_size: usize,
+    write_index: u32,
+    taken: u64,
+) -> Option<Layout>
+    ensures tested { is_some result ≡ is_valid_bounds geometry area_size page_size write_index taken }
+    ensures same { IfSome result (λ layout. layout.geometry ≡ geometry) }
+{
+    let layout = valid_pages(geometry, area_size, page_size)?;
+    if write_index < layout.ring().length && layout.has_slots(bits::length(taken)) {
+        Some(layout)
+    } else {
+        None
     }
+}
 
+impl Device {
     // The geometry as an allowed one, if the call's geometry, lent lengths and state are right.
-    #[tactic(auto, using(crate::proofs::Laws::Call::call), unfolding(crate::specs::Call::is_valid_call, crate::specs::State::is_device))]
+    #[tactic(auto, using(crate::proofs::Laws::Call::call, crate::proofs::Laws::Call::call_tests))]
     pub fn valid_call(
         &self,
         geometry: Geometry,
@@ -50,8 +60,9 @@ impl Device {
         ensures whole_page { IfSome result (λ _. page_size ≡ 4096) }
         ensures holds { IfSome result (λ layout. Holds area_size (ring_of layout.geometry)) }
     {
-        let layout = valid_pages(geometry, area_size, page_size)?;
-        if self.is_within(layout) && self.keeps_rules() {
+        let index = self.producer.write_index;
+        let layout = valid_bounds(geometry, area_size, page_size, index, self.taken)?;
+        if self.keeps_rules() {
             Some(layout)
         } else {
             None

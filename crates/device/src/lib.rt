@@ -7,6 +7,7 @@ mod room;
 mod state;
 
 use answers::Refusal;
+pub use call::valid_bounds;
 use revision1_records::Position;
 pub use room::check_room;
 pub use state::is_acceleration;

@@ -34,7 +34,7 @@ pub fn step(
         (told_of result ≡ step.stepped.told) × ((driver.new ≡ step.stepped.driver) × ((area.new ≡ step.area)
         × ((packet.new ≡ step.packet) × (answer_of result ≡ step_answer geometry driver.old area.old packet.old)))) }
 {
-    let layout = area_layout(geometry, &area[..])?;
+    let layout = area_layout(geometry, area.len())?;
     let Some(packet) = packet.as_mut_array::<PACKET_LENGTH>() else {
         return Err(Refusal::Invalid);
     };

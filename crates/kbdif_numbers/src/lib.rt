@@ -7,8 +7,8 @@ ghost use Rattle.std.specs.Prelude.{◌≡◌, ◌+◌, ◌≤◌};
 ghost use Rattle.answers.specs.Answers.{done};
 ghost use Rattle.kbdif_events.specs.Event.{event_length};
 ghost use Rattle.kbdif_decode.specs.Decode.{decoded, i32_at};
-ghost use Rattle.kbdif_decode.specs.Form.{form_read};
-ghost use Rattle.kbdif_numbers.specs.Numbers.{found, found_of, outcome_found};
+ghost use Rattle.kbdif_decode.specs.Form.{Form as FormOf, form_read, form_told};
+ghost use Rattle.kbdif_numbers.specs.Numbers.{no_numbers, found, found_of, outcome_found};
 ghost use Rattle.kbdif_numbers.specs.Found.{pointer_at, key_at, touch_at, axes_at, orientation_at, found_as};
 
 use answers::{DONE, Refusal};
@@ -58,6 +58,16 @@ const NO_NUMBERS: RingNumbers = RingNumbers {
     orientation: 0,
 };
 
+// A refusal's number, with an event of zeros.
+pub fn refused(number: u8) -> FoundNumbers
+    ensures { result ≡ found number no_numbers }
+{
+    FoundNumbers {
+        answer: number,
+        event: NO_NUMBERS,
+    }
+}
+
 // Kept apart from the other structs of C: one conversion for all would need a trait that sets the fields of each.
 impl From<Result<RingNumbers, Refusal>> for FoundNumbers {
     ghost from_gives = { λ outcome result. result ≡ outcome_found outcome };
@@ -68,10 +78,7 @@ impl From<Result<RingNumbers, Refusal>> for FoundNumbers {
                 answer: DONE,
                 event,
             },
-            Err(refusal) => FoundNumbers {
-                answer: refusal.number(),
-                event: NO_NUMBERS,
-            },
+            Err(refusal) => refused(refusal.number()),
         }
     }
 }
@@ -160,12 +167,25 @@ pub fn found_as(form: Form, bytes: &EventBytes) -> RingNumbers
     }
 }
 
+// What bytes tell that were looked at for their form: bytes that are refused have no event.
+#[inline(always)]
+pub fn event_told(
+    outcome: Result<Form, Refusal>,
+    bytes: &EventBytes,
+) -> Result<RingNumbers, Refusal>
+    ensures { (form : FormOf) → outcome ≡ form_told form → outcome_found result ≡ found_as form bytes.now }
+{
+    match outcome {
+        Ok(form) => Ok(found_as(form, bytes)),
+        Err(refusal) => Err(refusal),
+    }
+}
+
 // The event that 40 bytes hold, unknown or not, or why they are refused. In a call of its own the numbers would be written to memory
 // and copied from there, which takes a third longer.
 #[inline(always)]
 pub fn decode(bytes: &EventBytes, limit: ContactLimit) -> Result<RingNumbers, Refusal>
     ensures { outcome_found result ≡ found_of (decoded bytes.now limit.contacts) }
 {
-    let form = kbdif_decode::form_of(bytes, limit)?;
-    Ok(found_as(form, bytes))
+    event_told(kbdif_decode::form_of(bytes, limit), bytes)
 }

@@ -95,8 +95,8 @@ impl Settings {
     // Reads one node. A refusal leaves the settings as they were, and so does a name that is not meant here.
     #[tactic(auto, unfolding(crate::specs::Nodes::after_flag, crate::specs::Nodes::after_number, crate::specs::Nodes::after_node))]
     pub fn read_node(&mut self, name: &[u8], value: &[u8]) -> Result<(), Refusal>
-        ensures answer { answer_of result ≡ (read_node self.old name.now value.now).answer }
-        ensures settings { self.new ≡ (read_node self.old name.now value.now).settings }
+        ensures { let read = read_node self.old name.now value.now in
+            (answer_of result ≡ read.answer) × (self.new ≡ read.settings) }
     {
         match node_names::node_of(name) {
             Node::Flag(flag) => self.set_flag(flag, read_flag(value)?),

@@ -6,25 +6,25 @@ ghost use Rattle.answers.specs.declared.Refusal.TheVariants.{Invalid};
 ghost use Rattle.answers.specs.Refusal.{number_of, answer_of};
 ghost use Rattle.geometry.specs.Geometry.{ring_of};
 ghost use Rattle.records.specs.Ring.{Holds, read_pointer, with_read_pointer, next_index};
-ghost use Rattle.reading.specs.Oldest.{Record, Refused, oldest_of};
+ghost use Rattle.reading.specs.Oldest.{Record, Refused, oldest_of, refusal_of};
 ghost use Rattle.reading.specs.Reading.{is_valid_area, reading_refusal};
 
 use answers::Refusal;
 use geometry::{Geometry, Layout, Ring};
 use records::{Event, RingIndex};
 
-// The geometry as a layout, if it is allowed and the event area has its length.
+// The geometry as a layout, if it is allowed and its event area has so many bytes.
 #[tactic(auto, unfolding(crate::specs::Reading::is_valid_area))]
-pub fn area_layout(geometry: Geometry, area: &[u8]) -> Result<Layout, Refusal>
-    ensures tested { is_ok result ≡ is_valid_area geometry (length area.now) }
+pub fn area_layout(geometry: Geometry, area_size: usize) -> Result<Layout, Refusal>
+    ensures tested { is_ok result ≡ is_valid_area geometry area_size }
     ensures same { IfOk result (λ layout. layout.geometry ≡ geometry) }
-    ensures holds { IfOk result (λ layout. Holds (length area.now) (ring_of geometry)) }
+    ensures holds { IfOk result (λ layout. Holds area_size (ring_of geometry)) }
     ensures refused { IfErr result (λ refusal. refusal ≡ Invalid) }
 {
     let Some(layout) = geometry.layout() else {
         return Err(Refusal::Invalid);
     };
-    if area.len() == geometry.area_length() {
+    if area_size == geometry.area_length() {
         Ok(layout)
     } else {
         Err(Refusal::Invalid)
@@ -58,6 +58,7 @@ pub fn read_oldest(ring: Ring, area: &[u8]) -> Result<(RingIndex, Event), Refusa
     ensures read { MatchResult result
         (λ oldest. oldest_of ring area.now ≡ Record oldest.0.index oldest.1)
         (λ refusal. oldest_of ring area.now ≡ Refused (number_of refusal)) }
+    ensures answered { answer_of result ≡ refusal_of (oldest_of ring area.now) }
 {
     let at = oldest_index(
         ring,

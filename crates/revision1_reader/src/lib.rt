@@ -48,6 +48,6 @@ pub fn step(geometry: Geometry, area: &mut [u8]) -> Result<Event, Refusal>
     ensures { let take = take_of geometry area.old in
         (taken_of result ≡ take.taken) × ((area.new ≡ take.area) × (answer_of result ≡ take_answer geometry area.old)) }
 {
-    let layout = area_layout(geometry, &area[..])?;
+    let layout = area_layout(geometry, area.len())?;
     take_oldest(layout.ring(), area)
 }

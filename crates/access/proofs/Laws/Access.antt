@@ -37,6 +37,12 @@ module _ (geometry : Geometry) (offset width : ℕ) where
       go true true false true kept e = e
       go true true false false kept e = absurd (some e)
 
+  -- so what a read is refused with any access is
+  pub refused_either : (writes : Bool) {number : ℕ} → number ≡ first_refusal (access_refusals true geometry false offset width)
+      → (number ≡ 0 → ⊥) → number ≡ first_refusal (access_refusals true geometry writes offset width)
+  refused_either true h some = also_refused h some
+  refused_either false h some = h
+
   -- a write that no other test refuses is refused where its place is read-only
   pub written_by_place : first_refusal (access_refusals true geometry false offset width) ≡ 0
       → first_refusal (access_refusals true geometry true offset width) ≡ cond (is_read_only (place_of geometry offset)) read_only done

@@ -57,7 +57,7 @@ returns c =
     answered c.args.geometry c.args.driver.now c.args.area.now c.args.packet.now c.receive.result
     (step_received c.args.geometry c.args.driver.now c.args.area.now c.args.packet.now (is_valid at)
     (rw (ring_is at) at c.in-Ok.ensures.taken.0)
-    (told_with (rw c.in_ok-layout.ensures.same at c.receive.ensures.told)
-    (rw c.in_ok-layout.ensures.same at c.receive.ensures.driver))
+    (told_with (rw c.in_ok-layout.ensures.same at c.receive.ensures.0)
+    (rw c.in_ok-layout.ensures.same at c.receive.ensures.1))
     (rw (ring_is at) at c.in-Ok.ensures.taken.1)
-    (rw (c.in_ok-layout.ensures.same, c.in-Some.ensures.cases.same) at c.receive.ensures.packet))
+    (rw (c.in_ok-layout.ensures.same, c.in-Some.ensures.cases.same) at c.receive.ensures.2))
