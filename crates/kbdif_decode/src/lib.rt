@@ -28,6 +28,9 @@ pub enum Form {
     Orientation,
 }
 
+// Pressed, 0 or 1, is the second of a key's first four bytes.
+const PRESSED_END: u32 = 512;
+
 fn eight_at(bytes: &EventBytes, at: usize) -> u64
     requires { at + 8 ≤ event_length }
     ensures { result ≡ u64_at bytes.now at }
@@ -96,8 +99,10 @@ pub fn form_of(bytes: &EventBytes, limit: ContactLimit) -> Result<Form, Refusal>
     }
     let head = words::read_u32(bytes, 0);
     if kind == XENKBD_TYPE_KEY {
-        // Pressed, 0 or 1, is the second of four bytes.
-        checked(head < 512 && eight_at(bytes, 8) == 0, Form::KeyPress)
+        checked(
+            head < PRESSED_END && eight_at(bytes, 8) == 0,
+            Form::KeyPress,
+        )
     } else {
         checked(head < 256, Form::Pointer)
     }

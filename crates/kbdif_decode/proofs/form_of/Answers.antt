@@ -12,7 +12,7 @@ use Rattle.kbdif_decode.specs.Decode.{Decoded, decoded}
 use Rattle.kbdif_decode.specs.Form.{Pointer, KeyPress, form_told}
 use Rattle.kbdif_decode.proofs.Laws.Form.{told, lent, other_type, pointer_type, untyped, other_spoiled, pointer_form}
 use Rattle.kbdif_decode.proofs.Laws.Form.{key_form, told_either}
-use Rattle.kbdif_decode.proofs.form_of.Goals.{then-head-lt512, else-head-lt512}
+use Rattle.kbdif_decode.proofs.form_of.Goals.{then-head-lt-PRESSED_END, else-head-lt-PRESSED_END}
 use Rattle.kbdif_decode.proofs.form_of.Goals as goal
 
 pub returns-then-kind-gt-XENKBD_TYPE_POS : goal.returns-then-kind-gt-XENKBD_TYPE_POS
@@ -26,24 +26,24 @@ returns-then-not-tail_is_zero c =
     let kind = other_type _ c.if-kind-gt-XENKBD_TYPE_POS.false (λ none. omega arith) (λ two. omega arith) in
     sym (ap form_told (other_spoiled l kind (sym c.tail_is_zero.ensures ∙ c.if-not-tail_is_zero.true)))
 
-pub returns-after-head-lt512 : goal.returns-after-head-lt512
+pub returns-after-head-lt-PRESSED_END : goal.returns-after-head-lt-PRESSED_END
 unfolding told
-returns-after-head-lt512 c =
+returns-after-head-lt-PRESSED_END c =
     let l = lent c.args.bytes.now c.args.limit (omega arith) c.fits-bytes in
     let head = c.read_u32-head.ensures in
     let rest = sym c.tail_is_zero.ensures ∙ c.if-not-tail_is_zero.false in
     let bytes : List ℕ = c.args.bytes.now in
     let found : Decoded = decoded bytes c.args.limit.contacts in
     let form = key_form l c.if-kind-eq-XENKBD_TYPE_KEY.true in
-    elim c.if-head-lt512.branch [
-      | then-head-lt512 w ↦
+    elim c.if-head-lt-PRESSED_END.branch [
+      | then-head-lt-PRESSED_END w ↦
           c.checked.ensures ∙ rw (w.checked-is, w.eight_at.ensures)
           (told_either (eqb (u64_at bytes 8) 0) KeyPress found
-          (form ∙ rw (← head, lt-ltb c.read_u32-head.result 512 w.if-head-lt512.true, rest, and-true _)))
-      | else-head-lt512 w ↦
-          c.checked.ensures ∙ rw (w.checked-is, le-ltb c.read_u32-head.result 512 w.if-head-lt512.false)
+          (form ∙ rw (← head, lt-ltb c.read_u32-head.result 512 w.if-head-lt-PRESSED_END.true, rest, and-true _)))
+      | else-head-lt-PRESSED_END w ↦
+          c.checked.ensures ∙ rw (w.checked-is, le-ltb c.read_u32-head.result 512 w.if-head-lt-PRESSED_END.false)
           (told_either false KeyPress found
-          (form ∙ rw (← head, le-ltb c.read_u32-head.result 512 w.if-head-lt512.false)))
+          (form ∙ rw (← head, le-ltb c.read_u32-head.result 512 w.if-head-lt-PRESSED_END.false)))
     ]
 
 pub returns-else-kind-eq-XENKBD_TYPE_KEY : goal.returns-else-kind-eq-XENKBD_TYPE_KEY
