@@ -2,7 +2,8 @@
 // line closes the settings and begins new ones. A line with no equals sign is read as a number.
 #![tactic(auto)]
 
-use arrayvec::ArrayVec;
+ghost use Rattle.std.specs.Prelude.{◌≤◌, length, IfOk};
+
 use nodes::Settings;
 use std::io::{self, Read};
 
@@ -63,11 +64,27 @@ fn take_line(rt: &impl Print, settings: &mut Settings, text: &[u8]) -> io::Resul
     }
 }
 
+// Reads until the lent bytes are full or the input ends, and answers how many were read. Kept: `read_to_end` needs the heap, and `io::copy`
+// a buffer of its own.
+fn read_full(input: &mut impl Read, bytes: &mut [u8]) -> io::Result<usize>
+    ensures { IfOk result (λ count. count ≤ length bytes.new) }
+{
+    let mut done = 0;
+    for _ in 0..bytes.len() {
+        let count = input.read(&mut bytes[done..])?;
+        done += count;
+        if count == 0 || done == bytes.len() {
+            break;
+        }
+    }
+    Ok(done)
+}
+
 fn main(rt: HostRuntime) -> io::Result<()> {
-    let mut table = ArrayVec::<u8, TABLE_LENGTH>::new();
-    io::copy(&mut rt.stdin().take(TABLE_LENGTH as u64), &mut table)?;
+    let mut table = [0; TABLE_LENGTH];
+    let count = read_full(&mut rt.stdin(), &mut table)?;
     let mut settings = Settings::fresh();
-    for line in table.as_slice().split_inclusive(|&byte| byte == b'\n') {
+    for line in table[..count].split_inclusive(|&byte| byte == b'\n') {
         take_line(&rt, &mut settings, line.strip_suffix(b"\n").unwrap_or(line))?;
     }
     Ok(())

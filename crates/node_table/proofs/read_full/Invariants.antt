@@ -1,0 +1,6 @@
+-- No more bytes were read than are lent.
+use Rattle.std.proofs.Common.{◌≤◌, length}
+use Rattle.node_table.proofs.read_full.Given as goal
+
+abbrev pub invariant-loop : goal.invariant-loop
+invariant-loop g l = l.done ≤ length l.bytes
